@@ -1,0 +1,22 @@
+-- When a refusal comes.
+use Rattle.std.specs.Prelude.{◌≡◌, ℕ, Bool, Option, Some, None, Result, Ok, Err, cond, ◌&&◌, nat_le}
+use Rattle.sv_model.specs.declared.refusals.Refusal.{Refusal}
+use Rattle.sv_model.specs.declared.refusals.Refusal.TheVariants as refusal
+
+-- The call is refused exactly as is due; want of memory may stand in place of any answer.
+abbrev pub Refuses : {T : Type 0} → Option Refusal → Result T Refusal → Type 0
+Refuses due (Ok x) = due ≡ None
+Refuses due (Err refusal.OutOfMemory) = Unit {0}
+Refuses due (Err e) = due ≡ Some e
+
+-- The same of a call that takes no memory.
+abbrev pub RefusesExactly : {T : Type 0} → Option Refusal → Result T Refusal → Type 0
+RefusesExactly due (Ok x) = due ≡ None
+RefusesExactly due (Err e) = due ≡ Some e
+
+-- the refusal that a key or a value of this length meets
+abbrev pub key_fault : ℕ → Option Refusal
+key_fault n = cond (nat_le 1 n && nat_le n 64) None (Some (refusal.KeyLength n))
+
+abbrev pub value_fault : ℕ → Option Refusal
+value_fault n = cond (nat_le n 1024) None (Some (refusal.ValueLength n))

@@ -1,0 +1,15 @@
+-- Registers. A register is a list that only grows; object number n, from 1, stands at place n - 1.
+use Rattle.std.specs.Prelude.{◌≡◌, ℕ, zero, suc, List, Option, Some, None, slice_get}
+
+-- the record of object number n
+abbrev pub entry : {A : Type 0} → List A → ℕ → Option A
+entry l zero = None
+entry l (suc n) = slice_get l n
+
+-- some record of the register is so
+abbrev pub Has : {A : Type 0} → (A → Type 0) → List A → Type 0
+Has {A} P l = (n : ℕ) × (x : A) × (entry l n ≡ Some x) × P x
+
+-- Each object of a register is in the later register, and its records are related.
+abbrev pub GoesOn : {A : Type 0} → (A → A → Type 0) → List A → List A → Type 0
+GoesOn {A} R a b = (n : ℕ) (x : A) → entry a n ≡ Some x → (y : A) × (entry b n ≡ Some y) × R x y
