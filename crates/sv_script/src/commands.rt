@@ -1,0 +1,43 @@
+// The commands of a script.
+use sv_model::{Items, Name, OptionName};
+
+/// A command of a lane. Keys and values are the bytes of its items, of any length.
+#[derive(Drop, Debug)]
+pub enum Command {
+    Put {
+        family: Name,
+        key: Items<u8>,
+        value: Items<u8>,
+    },
+    Delete {
+        family: Name,
+        key: Items<u8>,
+    },
+    Get {
+        family: Name,
+        key: Items<u8>,
+    },
+    Getp {
+        pin: u64,
+        key: Items<u8>,
+    },
+    Flush(Name),
+    Compact(Name),
+    Create(Name),
+    Open(Name),
+    Release(Name),
+    Drop(Name),
+    Set {
+        family: Name,
+        option: OptionName,
+        value: u64,
+    },
+    Pin(Name),
+    Unpin(u64),
+    Hold,
+    Unhold,
+    Live,
+    Purge,
+    Scan,
+    Rest,
+}

@@ -1,0 +1,10 @@
+//! Scripts and their replies: the grammar, and every text that a report has.
+#![tactic(auto)]
+
+mod commands;
+mod replies;
+mod scripts;
+
+pub use commands::Command;
+pub use replies::{LaneReport, Reply, Tail};
+pub use scripts::{BadKind, BadLine, Line, Script, ScriptError};
