@@ -1,0 +1,12 @@
+//! The top call: a script from a source, its report to a sink.
+#![tactic(auto)]
+
+mod memory;
+mod standard;
+mod stops;
+mod streams;
+mod transfers;
+
+pub use memory::{MemSink, MemSource};
+pub use standard::{StdSink, StdSource};
+pub use streams::{Failed, Sink, Source};
