@@ -2,11 +2,13 @@
 #![tactic(auto)]
 
 mod memory;
+mod plain;
 mod standard;
 mod stops;
 mod streams;
 mod transfers;
 
 pub use memory::{MemSink, MemSource};
+pub use plain::{Got, Plain};
 pub use standard::{StdSink, StdSource};
 pub use streams::{Failed, Sink, Source};
