@@ -1,0 +1,5 @@
+pub mod Items
+pub mod RefusalTexts
+pub mod ReplyTexts
+pub mod ReportTexts
+pub mod Texts

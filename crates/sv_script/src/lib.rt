@@ -4,7 +4,9 @@
 mod commands;
 mod replies;
 mod scripts;
+mod texts;
 
 pub use commands::Command;
 pub use replies::{LaneReport, Reply, Tail};
 pub use scripts::{BadKind, BadLine, Line, Script, ScriptError};
+pub use texts::{reply_text, report_text, tail_text};

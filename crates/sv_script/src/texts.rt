@@ -1,0 +1,8 @@
+// Every text of a report, appended to one list of bytes.
+mod pieces;
+mod refusal;
+mod reply;
+mod report;
+
+pub use reply::reply_text;
+pub use report::{report_text, tail_text};
