@@ -1,4 +1,5 @@
 pub mod Items
+pub mod OutcomeTexts
 pub mod RefusalTexts
 pub mod ReplyTexts
 pub mod ReportTexts
