@@ -1,3 +1,9 @@
 pub mod Answered
 pub mod Built
+pub mod Items
+pub mod OutcomeTexts
+pub mod RefusalTexts
 pub mod ReplyLaw
+pub mod ReplyTexts
+pub mod ReportTexts
+pub mod Texts
