@@ -1,6 +1,8 @@
 pub mod After
 pub mod Books
 pub mod Journal
+pub mod Lists
+pub mod Named
 pub mod Names
 pub mod Reads
 pub mod Refusals
