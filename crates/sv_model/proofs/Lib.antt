@@ -1,2 +1,3 @@
+pub mod Freed
 pub mod Lists
 pub mod Registers

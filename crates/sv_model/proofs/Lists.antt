@@ -1,7 +1,7 @@
 -- Laws on what stands in a list, how often and in which order.
-use Rattle.std.proofs.Common.{◌≡◌, ◌≢◌, ℕ, zero, suc, ◌+◌, ◌<◌, ◌≤◌, Bool, true, false, cond, ◌==◌, ◌⊎◌, inl, inr, List, [], ◌∷◌, ◌++◌, length, Some, None, slice_get, set, filter, arith, refl, sym, ap, ◌∙◌, eqb-true, eq-eqb, ne_eqb, eqb→eq, true-eqb}
+use Rattle.std.proofs.Common.{◌≡◌, ◌≢◌, ℕ, zero, suc, ◌+◌, ◌<◌, ◌≤◌, ◌⊎◌, inl, inr, List, [], ◌∷◌, ◌++◌, Some, slice_get, set, arith, refl, sym, ap, ◌∙◌}
 use Rattle.std.proofs.lemmas.Grind.{common_steps}
-use Rattle.sv_model.specs.Lists.{In, Distinct, IsPartOf, total, same, times}
+use Rattle.sv_model.specs.Lists.{In, total, same, times}
 
 -- ---- sums
 pub total-append : {A : Type 0} (g : A → ℕ) (xs ys : List A) → total g (xs ++ ys) ≡ total g xs + total g ys
@@ -21,11 +21,11 @@ total_at g (y ∷ xs) (suc i) x is = let h = total_at g xs i x is in omega arith
 pub at_total : {A : Type 0} (g : A → ℕ) (xs : List A) → 0 < total g xs → (i : ℕ) × (x : A) × (slice_get xs i ≡ Some x) × (0 < g x)
 at_total g [] more = absurd (omega arith)
 at_total {A} g (y ∷ xs) more =
-  let cases : (0 < g y) ⊎ (0 < total g xs) = grind arith in
-  elim cases [
-    inl here ↦ (0, y, refl, here)
-  | inr later ↦ let h = at_total g xs later in (suc h.0, h.1, h.2, h.3)
-  ]
+    let cases : (0 < g y) ⊎ (0 < total g xs) = grind arith in
+    elim cases [
+      | inl here ↦ (0, y, refl, here)
+      | inr later ↦ let h = at_total g xs later in (suc h.0, h.1, h.2, h.3)
+    ]
 
 pub total-set : {A : Type 0} (g : A → ℕ) (xs : List A) (i : ℕ) (x y : A) → slice_get xs i ≡ Some x → total g (set xs i y) + g x ≡ total g xs + g y
 total-set g [] i x y is = absurd (cc)
@@ -47,10 +47,10 @@ same-le n m = grind (arith, common_steps)
 
 pub times_in : (n : ℕ) (xs : List ℕ) → In n xs → 0 < times n xs
 times_in n xs there =
-  let one = same_here n in let h = total_at (same n) xs there.at n there.is in omega arith
+    let one = same_here n in let h = total_at (same n) xs there.at n there.is in omega arith
 
 pub in_times : (n : ℕ) (xs : List ℕ) → 0 < times n xs → In n xs
 in_times n xs more =
-  let h = at_total (same n) xs more in
-  let e : n ≡ h.1 = same_is n h.1 h.3 in
-  record { at = h.0; is = h.2 ∙ ap Some (sym e) }
+    let h = at_total (same n) xs more in
+    let e : n ≡ h.1 = same_is n h.1 h.3 in
+    record { at = h.0; is = h.2 ∙ ap Some (sym e) }

@@ -1,5 +1,5 @@
 -- Laws of registers: what an entry is after a push or a change, and sums over a register.
-use Rattle.std.proofs.Common.{◌≡◌, ◌≢◌, ℕ, zero, suc, ◌+◌, ◌<◌, ◌≤◌, ◌⊎◌, inl, inr, List, [], ◌∷◌, ◌++◌, length, get_or, Some, None, slice_get, set, arith, refl, sym, ap, subst, ◌∙◌, length-set}
+use Rattle.std.proofs.Common.{◌≡◌, ◌≢◌, ℕ, zero, suc, ◌+◌, ◌<◌, ◌≤◌, ◌⊎◌, inl, inr, List, [], ◌∷◌, ◌++◌, length, get_or, Some, slice_get, set, arith, refl, sym, ap, subst, ◌∙◌, length-set}
 use Rattle.std.proofs.lemmas.Option.{slice_get_within, slice_get_read}
 use Rattle.sv_model.specs.Lists.{total}
 use Rattle.sv_model.specs.Registers.{entry, change, Has, GoesOn}
@@ -24,9 +24,9 @@ get_push [] y zero x is = inr (refl, (let e : y ≡ x = cc in sym e))
 get_push [] y (suc n) x is = absurd (cc)
 get_push (z ∷ l) y zero x is = inl is
 get_push (z ∷ l) y (suc n) x is = elim (get_push l y n x is) [
-    inl old ↦ inl old
+  | inl old ↦ inl old
   | inr new ↦ inr (ap suc new.0, new.1)
-  ]
+]
 
 -- what was an entry is one after a push
 pub entry-old : {A : Type 0} (l m : List A) (n : ℕ) (x : A) → entry l n ≡ Some x → entry (l ++ m) n ≡ Some x
@@ -41,9 +41,9 @@ entry-new l y n e = subst (λ k. entry (l ++ y ∷ []) k ≡ Some y) (let h : su
 pub entry_push : {A : Type 0} (l : List A) (y : A) (n : ℕ) (x : A) → entry (l ++ y ∷ []) n ≡ Some x → (entry l n ≡ Some x) ⊎ ((n ≡ length l + 1) × (x ≡ y))
 entry_push l y zero x is = absurd (cc)
 entry_push l y (suc n) x is = elim (get_push l y n x is) [
-    inl old ↦ inl old
+  | inl old ↦ inl old
   | inr new ↦ inr (let e = new.0 in omega arith, new.1)
-  ]
+]
 
 get-same : {A : Type 0} (l : List A) (n : ℕ) (x y : A) → slice_get l n ≡ Some x → slice_get (set l n y) n ≡ Some y
 get-same [] n x y is = absurd (cc)
@@ -83,9 +83,9 @@ change_same l (suc n) y x is = set_same l n y x is
 -- an entry after a change is the new record or that of another object
 pub entry_change : {A : Type 0} (l : List A) (n k : ℕ) (y x : A) → entry (change l n y) k ≡ Some x → ((k ≡ n) × (x ≡ y)) ⊎ ((k ≢ n) × (entry l k ≡ Some x))
 entry_change l n k y x is = elim (apart_or k n) [
-    inl here ↦ inl (here, change_same l n y x (subst (λ i. entry (change l n y) i ≡ Some x) here is))
+  | inl here ↦ inl (here, change_same l n y x (subst (λ i. entry (change l n y) i ≡ Some x) here is))
   | inr apart ↦ inr (apart, sym (entry-else l n k y apart) ∙ is)
-  ]
+]
 
 pub length-change : {A : Type 0} (l : List A) (n : ℕ) (y : A) → length (change l n y) ≡ length l
 length-change l zero y = refl
@@ -107,21 +107,21 @@ goes-push R l y itself n x is = (x, entry-old l (y ∷ []) n x is, itself x)
 
 pub goes-on : {A : Type 0} (R : A → A → Type 0) (a b c : List A) → ((x y z : A) → R x y → R y z → R x z) → GoesOn R a b → GoesOn R b c → GoesOn R a c
 goes-on R a b c through first then n x is =
-  let p = first n x is in
-  let q = then n p.0 p.1 in
-  (q.0, q.1, through x p.0 q.0 p.2 q.2)
+    let p = first n x is in
+    let q = then n p.0 p.1 in
+    (q.0, q.1, through x p.0 q.0 p.2 q.2)
 
 pub goes-change : {A : Type 0} (R : A → A → Type 0) (l : List A) (n : ℕ) (x y : A) → ((z : A) → R z z) → entry l n ≡ Some x → R x y → GoesOn R l (change l n y)
 goes-change {A} R l n x y itself was related k z is = elim (apart_or k n) [
-    inl here ↦ (
-      y,
-      subst (λ i. entry (change l n y) i ≡ Some y) (sym here) (entry-same l n x y was),
-      (let e : Some x ≡ Some z = sym was ∙ subst (λ i. entry l i ≡ Some z) here is in
-       let f : x ≡ z = cc in
-       subst (λ w. R w y) f related)
-    )
+  | inl here ↦ (
+    y,
+    subst (λ i. entry (change l n y) i ≡ Some y) (sym here) (entry-same l n x y was),
+    (let e : Some x ≡ Some z = sym was ∙ subst (λ i. entry l i ≡ Some z) here is in
+        let f : x ≡ z = cc in
+        subst (λ w. R w y) f related),
+  )
   | inr apart ↦ (z, entry-else l n k y apart ∙ is, itself z)
-  ]
+]
 
 -- ---- sums over a register
 pub total_entry : {A : Type 0} (g : A → ℕ) (l : List A) (n : ℕ) (x : A) → entry l n ≡ Some x → g x ≤ total g l

@@ -1,5 +1,6 @@
 pub mod After
 pub mod Books
+pub mod Counts
 pub mod Journal
 pub mod Lists
 pub mod Named

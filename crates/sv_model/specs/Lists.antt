@@ -1,5 +1,5 @@
 -- Words on lists: what stands in one, how often, each once, in the same order.
-use Rattle.std.specs.Prelude.{◌≡◌, ℕ, ◌+◌, List, [], ◌∷◌, Some, slice_get, cond, ◌==◌, ◌⊎◌}
+use Rattle.std.specs.Prelude.{◌≡◌, ℕ, ◌+◌, List, [], ◌∷◌, Some, slice_get, cond, ◌==◌, ◌⊎◌, ◌↔◌}
 
 -- the item stands in the list
 pub record In {A : Type 0} (x : A) (l : List A) : Type 0 where
@@ -28,3 +28,9 @@ same n m = cond (m == n) 1 0
 -- how often n stands in the list
 abbrev pub times : ℕ → List ℕ → ℕ
 times n l = total (same n) l
+
+-- The list gives the items of all that are so, in their order, each once.
+pub record IsChosen (P : ℕ → Type 0) (all given : List ℕ) : Type 0 where
+  pub exact : (n : ℕ) → In n given ↔ (In n all × P n)
+  pub once : Distinct given
+  pub order : IsPartOf given all
