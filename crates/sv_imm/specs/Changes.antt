@@ -19,6 +19,6 @@ abbrev pub gone_list : MemtableList → MemtableList
 gone_list l = record { members = l.members; live = false }
 
 -- The list is Gone. Given are its members that no other list names, the oldest first, each once.
-pub record IsReleased (old : List MemtableList) (id : ℕ) (new : List MemtableList) (given : List ℕ) : Type 0 where
+pub record IsReleased (old : List MemtableList) (id : ℕ) (new : List MemtableList) (answer : List ℕ) : Type 0 where
   pub gone : (l : MemtableList) → entry old id ≡ Some l → new ≡ change old id (gone_list l)
-  pub given : (l : MemtableList) → entry old id ≡ Some l → IsChosen (λ m. Has (HasMember m) new → ⊥) l.members given
+  pub given : (l : MemtableList) → entry old id ≡ Some l → IsChosen (λ m. Has (HasMember m) new → ⊥) l.members answer

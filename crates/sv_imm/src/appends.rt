@@ -23,7 +23,11 @@ pub fn with_last(alloc: Global, members: &[MemId], mem: MemId) -> Result<Vec<Mem
 }
 
 // The members without the oldest ones.
-pub fn without_oldest(alloc: Global, members: &[MemId], count: u8) -> Result<Vec<MemId>, OutOfMemory>
+pub fn without_oldest(
+    alloc: Global,
+    members: &[MemId],
+    count: u8,
+) -> Result<Vec<MemId>, OutOfMemory>
     ensures { IfOk result (λ v. v.items ≡ drop count members.now) }
 {
     let flushed = usize::from(count).min(members.len());

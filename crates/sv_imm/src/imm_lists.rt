@@ -21,6 +21,8 @@ pub struct ImmLists {
 }
 
 impl Model for ImmLists {
+    ghost use Rattle.std.specs.Prelude.{List};
+    ghost use Rattle.sv_model.specs.declared.records.MemtableList.{MemtableList};
     ghost use Rattle.sv_imm.specs.Counted.{IsCounted};
 
     ghost Value = { List MemtableList };

@@ -8,14 +8,18 @@ use sv_model::{Counts, MemId, OutOfMemory};
 
 // All members count once more, or, for want of memory, none.
 pub fn raise(counts: &mut Counts, members: &[MemId]) -> Result<(), OutOfMemory>
-    requires { (m : ℕ) → count_of counts.old m + length members.now < 2 ^ 64 }
+    requires room { (m : ℕ) → count_of counts.old m + length members.now < 2 ^ 64 }
+    requires short { length members.now ≤ 64 }
     ensures ok { OnOk result ((m : ℕ) → count_of counts.new m ≡ count_of counts.old m + times m members.now) }
     ensures err { OnErr result ((m : ℕ) → count_of counts.new m ≡ count_of counts.old m) }
 {
     for (i, mem) in members.iter().enumerate() {
-        if counts.up(u64::from(mem.0)).is_err() {
-            lower(counts, &members[..i]);
-            return Err(OutOfMemory);
+        match counts.up(u64::from(mem.0)) {
+            Ok(()) => {}
+            Err(refused) => {
+                lower(counts, &members[..i]);
+                return Err(refused);
+            }
         }
     }
     Ok(())
