@@ -1,6 +1,7 @@
 //! The words that every crate speaks: ids, keys, values, writes, the records of the registers, refusals.
 #![tactic(auto)]
 
+mod counts;
 mod faults;
 mod ids;
 mod item_list;
@@ -13,6 +14,7 @@ mod settings;
 mod values;
 mod writes;
 
+pub use counts::Counts;
 pub use faults::OutOfMemory;
 pub use ids::{FamilyId, FileNumber, ListId, MemId, Pack, SvSerial, VersionId};
 pub use item_list::Items;

@@ -1,0 +1,4 @@
+pub mod Freed
+pub mod Lists
+pub mod Lowering
+pub mod Registers
