@@ -2,7 +2,7 @@
 use Rattle.std.proofs.Common.{◌≡◌, ◌≢◌, ℕ, zero, suc, ◌+◌, ◌<◌, ◌≤◌, ◌==◌, Bool, true, false, cond, not, ◌⊎◌, inl, inr, List, [], ◌∷◌, ◌++◌, length, Option, Some, None, slice_get, set, replicate, arith, refl, sym, ap, subst, ◌∙◌, get_or, nat_lt}
 use Rattle.std.specs.List.{position_or_len}
 use Rattle.std.proofs.lemmas.Grind.{common_steps}
-use Rattle.std.proofs.lemmas.Bool.{lt-ltb, cases_lt, eqb-true}
+use Rattle.std.proofs.lemmas.Bool.{lt-ltb, cases_lt, eqb-true, eq-eqb}
 use Rattle.std.proofs.lemmas.List.Quantifiers.{position-Some}
 use Rattle.std.proofs.lemmas.Option.{slice_get-get_or}
 use Rattle.sv_model.specs.Registers.{entry, change, Has}
@@ -174,9 +174,14 @@ nothing_there live place l places p h free there =
     let none : there.0 ≡ 0 = cc in
     let within = entry_le l there.0 there.1 there.2 in omega arith
 
+-- at a place that is taken stands the Live object of its id
+pub held_id : {A : Type 0} (live : A → Bool) (place : A → ℕ) (l : List A) (places : List ℕ) (p v : ℕ) → Housed live place l places → slice_get places p ≡ Some v → v ≢ 0 → (x : A) × (entry l v ≡ Some x) × StandsAt live place p x
+held_id live place l places p zero h is some = absurd (some refl)
+held_id live place l places p (suc v) h is some = h.held p v is
+
 one_there : {A : Type 0} (live : A → Bool) (place : A → ℕ) (l : List A) (places : List ℕ) (p v : ℕ) → Housed live place l places → slice_get places p ≡ Some v → (v == 0) ≡ false → Has (StandsAt live place p) l
-one_there live place l places p zero h is held = absurd (cc)
-one_there live place l places p (suc v) h is held = let x = h.held p v is in (suc v, x.0, x.1, x.2)
+one_there live place l places p v h is held =
+  let x = held_id live place l places p v h is (λ e. (let t : (v == 0) ≡ true = eq-eqb v 0 e in cc)) in (v, x.0, x.1, x.2)
 
 pub least_is : {A : Type 0} (live : A → Bool) (place : A → ℕ) (l : List A) (places : List ℕ) (p : ℕ) → Housed live place l places → first_free places ≡ Some p → (slice_get places p ≡ Some 0) × (p < length places) × (live_count live l < length places) × IsLeastFree live place l p
 least_is live place l places p h some =
