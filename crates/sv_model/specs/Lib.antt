@@ -6,6 +6,7 @@ pub mod Journal
 pub mod Lists
 pub mod Named
 pub mod Names
+pub mod Places
 pub mod Reads
 pub mod Refusals
 pub mod Registers

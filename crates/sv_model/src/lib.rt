@@ -7,6 +7,7 @@ mod ids;
 mod item_list;
 mod keys;
 mod names;
+mod places;
 mod records;
 mod refusals;
 mod reports;
@@ -20,6 +21,7 @@ pub use ids::{FamilyId, FileNumber, ListId, MemId, Pack, SvSerial, VersionId};
 pub use item_list::Items;
 pub use keys::{GREATEST_KEY, Key};
 pub use names::{GREATEST_NAME, Name};
+pub use places::least_free;
 pub use records::{
     Descriptor, Family, FileMeta, FileStatus, Memtable, MemtableList, RegisteredFile, SuperVersion,
     Top, Version,
