@@ -1,5 +1,6 @@
 pub mod After
 pub mod Books
+pub mod Faults
 pub mod Journal
 pub mod Names
 pub mod Reads
