@@ -2,4 +2,5 @@ pub mod Freed
 pub mod Lists
 pub mod Lowering
 pub mod PlaceLaws
+pub mod Refusing
 pub mod Registers

@@ -3,11 +3,15 @@ use Rattle.std.specs.Prelude.{◌≡◌, ℕ, Bool, List, [], ◌∷◌, Option,
 use Rattle.sv_model.specs.declared.refusals.Refusal.{Refusal}
 use Rattle.sv_model.specs.declared.refusals.Refusal.TheVariants as refusal
 
+-- the refusal is the one that is due; want of memory may stand in place of any
+abbrev pub IsDue : Option Refusal → Refusal → Type 0
+IsDue due refusal.OutOfMemory = Unit {0}
+IsDue due e = due ≡ Some e
+
 -- The call is refused exactly as is due; want of memory may stand in place of any answer.
 abbrev pub Refuses : {T : Type 0} → Option Refusal → Result T Refusal → Type 0
 Refuses due (Ok x) = due ≡ None
-Refuses due (Err refusal.OutOfMemory) = Unit {0}
-Refuses due (Err e) = due ≡ Some e
+Refuses due (Err e) = IsDue due e
 
 -- The same of a call that takes no memory.
 abbrev pub RefusesExactly : {T : Type 0} → Option Refusal → Result T Refusal → Type 0

@@ -1,2 +1,4 @@
 pub mod FirstStore
 pub mod Moving
+pub mod Stepping
+pub mod Telling

@@ -1,6 +1,7 @@
 //! The top call: a script from a source, its report to a sink.
 #![tactic(auto)]
 
+mod answers;
 mod memory;
 mod plain;
 mod standard;
