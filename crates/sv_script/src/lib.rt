@@ -2,6 +2,7 @@
 #![tactic(auto)]
 
 mod commands;
+mod parsing;
 mod replies;
 mod scripts;
 

@@ -1,0 +1,3 @@
+// Reading a script.
+mod faults;
+mod verbs;
