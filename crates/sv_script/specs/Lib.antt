@@ -1,3 +1,9 @@
+pub mod Built
+pub mod Commands
 pub mod Items
+pub mod LineFaults
 pub mod Numbers
+pub mod Parts
+pub mod Progress
+pub mod Script
 pub mod Words

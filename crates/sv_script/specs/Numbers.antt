@@ -17,6 +17,10 @@ is_digits word = nat_le 1 (length word) && nat_le (length word) 20 && list_all i
 unfoldable pub number_of : List ℕ → Option ℕ
 number_of word = if is_digits word && nat_le (value_of word) 18446744073709551615 then Some (value_of word) else None
 
+-- a number with one more digit, where that is a number
+abbrev pub with_digit : ℕ → ℕ → Option ℕ
+with_digit value digit = if is_digit digit && nat_le (value * 10 + (digit - 48)) 18446744073709551615 then Some (value * 10 + (digit - 48)) else None
+
 -- the number of the lane that the word is: a number from 1 to 32
 abbrev pub in_lanes : Option ℕ → Option ℕ
 in_lanes (Some n) = if nat_le 1 n && nat_le n 32 then Some n else None

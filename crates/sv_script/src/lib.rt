@@ -7,5 +7,6 @@ mod replies;
 mod scripts;
 
 pub use commands::Command;
+pub use parsing::parse;
 pub use replies::{LaneReport, Reply, Tail};
 pub use scripts::{BadKind, BadLine, Line, Script, ScriptError};
