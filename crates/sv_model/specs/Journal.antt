@@ -50,3 +50,12 @@ value_of Delete = None
 abbrev pub look : List Write → ℕ → ℕ → List ℕ → Option (List ℕ)
 look journal family cut key =
     option_and_then value_of (newest_op key (rows_of (take cut (of_family family journal))))
+
+-- what a write changes, apart from the lane that made it and the memtable that bears it
+pub record Change : Type 0 where
+  pub family : ℕ
+  pub key : List ℕ
+  pub op : Op
+
+abbrev pub change_of : Write → Change
+change_of w = record { family = w.family; key = w.key; op = w.op }

@@ -1,7 +1,12 @@
 pub mod After
 pub mod Books
+pub mod Counts
+pub mod Faults
 pub mod Journal
+pub mod Lists
+pub mod Named
 pub mod Names
+pub mod Places
 pub mod Reads
 pub mod Refusals
 pub mod Registers

@@ -1,5 +1,5 @@
 -- When a refusal comes.
-use Rattle.std.specs.Prelude.{◌≡◌, ℕ, Bool, Option, Some, None, Result, Ok, Err, cond, ◌&&◌, nat_le}
+use Rattle.std.specs.Prelude.{◌≡◌, ℕ, Bool, List, [], ◌∷◌, Option, Some, None, Result, Ok, Err, cond, ◌&&◌, nat_le}
 use Rattle.sv_model.specs.declared.refusals.Refusal.{Refusal}
 use Rattle.sv_model.specs.declared.refusals.Refusal.TheVariants as refusal
 
@@ -20,3 +20,9 @@ key_fault n = cond (nat_le 1 n && nat_le n 64) None (Some (refusal.KeyLength n))
 
 abbrev pub value_fault : ℕ → Option Refusal
 value_fault n = cond (nat_le n 1024) None (Some (refusal.ValueLength n))
+
+-- the first refusal that is due
+abbrev pub first_due : List (Option Refusal) → Option Refusal
+first_due [] = None
+first_due (None ∷ faults) = first_due faults
+first_due (Some e ∷ faults) = Some e

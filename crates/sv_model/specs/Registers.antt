@@ -1,10 +1,15 @@
 -- Registers. A register is a list that only grows; object number n, from 1, stands at place n - 1.
-use Rattle.std.specs.Prelude.{◌≡◌, ℕ, zero, suc, List, Option, Some, None, slice_get}
+use Rattle.std.specs.Prelude.{◌≡◌, ℕ, zero, suc, List, Option, Some, None, slice_get, slice_set}
 
 -- the record of object number n
 abbrev pub entry : {A : Type 0} → List A → ℕ → Option A
 entry l zero = None
 entry l (suc n) = slice_get l n
+
+-- the register with another record of object number n
+abbrev pub change : {A : Type 0} → List A → ℕ → A → List A
+change l zero x = l
+change l (suc n) x = slice_set l n x
 
 -- some record of the register is so
 abbrev pub Has : {A : Type 0} → (A → Type 0) → List A → Type 0

@@ -1,11 +1,13 @@
 //! The words that every crate speaks: ids, keys, values, writes, the records of the registers, refusals.
 #![tactic(auto)]
 
+mod counts;
 mod faults;
 mod ids;
 mod item_list;
 mod keys;
 mod names;
+mod places;
 mod records;
 mod refusals;
 mod reports;
@@ -13,11 +15,13 @@ mod settings;
 mod values;
 mod writes;
 
+pub use counts::Counts;
 pub use faults::OutOfMemory;
 pub use ids::{FamilyId, FileNumber, ListId, MemId, Pack, SvSerial, VersionId};
 pub use item_list::Items;
 pub use keys::{GREATEST_KEY, Key};
 pub use names::{GREATEST_NAME, Name};
+pub use places::least_free;
 pub use records::{
     Descriptor, Family, FileMeta, FileStatus, Memtable, MemtableList, RegisteredFile, SuperVersion,
     Top, Version,

@@ -6,19 +6,41 @@ ghost use Rattle.sv_model.specs.Journal.{is_of};
 use crate::ids::{FamilyId, MemId};
 use crate::keys::Key;
 use crate::values::Value;
+use std::alloc::AllocError;
 
 /// What a write does to its key.
-#[derive(Clone, Drop, Debug)]
+#[derive(Drop, Debug)]
 pub enum Op {
     Put(Value),
     Delete,
 }
 
+impl Clone for Op {
+    ghost is_clone = { λ op copy. copy ≡ op };
+
+    fn clone(&self) -> Result<Op, AllocError> {
+        match self {
+            Op::Put(value) => Ok(Op::Put(value.clone()?)),
+            Op::Delete => Ok(Op::Delete),
+        }
+    }
+}
+
 /// A row of a memtable or of a table.
-#[derive(Clone, Drop, Debug)]
+#[derive(Drop, Debug)]
 pub struct Row {
     pub key: Key,
     pub op: Op,
+}
+
+impl Clone for Row {
+    ghost is_clone = { λ row copy. copy ≡ row };
+
+    fn clone(&self) -> Result<Row, AllocError> {
+        let key = self.key.clone()?;
+        let op = self.op.clone()?;
+        Ok(Row { key, op })
+    }
 }
 
 /// An accepted write, with the memtable that bears it and the lane that made it.

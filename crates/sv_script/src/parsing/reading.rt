@@ -17,6 +17,7 @@ ghost use Rattle.std.specs.Str.Lines.{strip_carriage_return};
 ghost use Rattle.sv_script.specs.LineFaults.{error_at};
 ghost use Rattle.sv_script.specs.Progress.{GoesOn, StopsAt, finish, finish_at};
 ghost use Rattle.sv_script.specs.Script.{IsParsed, lanes_of, script_of};
+ghost use Rattle.sv_script.specs.ScriptLaws.{IsWellFormed};
 ghost use Rattle.sv_script.specs.Words.{words_of};
 
 use crate::parsing::command_lines::command_line;
@@ -97,8 +98,7 @@ fn lanes_of(lines: &[Line]) -> u8
     most
 }
 
-/// The script that the bytes are, or its first bad line.
-pub fn parse(alloc: Global, bytes: &[u8]) -> Result<Script, ScriptError>
+fn script_from(alloc: Global, bytes: &[u8]) -> Result<Script, ScriptError>
     ensures script { IsParsed (script_of bytes.now) result }
 {
     let mut read = Progress {
@@ -114,4 +114,13 @@ pub fn parse(alloc: Global, bytes: &[u8]) -> Result<Script, ScriptError>
         phases: read.phase + 1,
         lines: Items::from_vec(read.lines),
     })
+}
+
+/// The script that the bytes are, or its first bad line. Takes one pass over the bytes. `OutOfMemory` also stands for a
+/// script of more than 4,294,967,295 phases.
+pub fn parse(alloc: Global, bytes: &[u8]) -> Result<Script, ScriptError>
+    ensures script { IsParsed (script_of bytes.now) result }
+    ensures well_formed { IfOk result (λ script. IsWellFormed script) }
+{
+    script_from(alloc, bytes)
 }

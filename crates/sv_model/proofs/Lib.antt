@@ -1,0 +1,5 @@
+pub mod Freed
+pub mod Lists
+pub mod Lowering
+pub mod PlaceLaws
+pub mod Registers

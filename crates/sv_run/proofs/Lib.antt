@@ -1,0 +1,2 @@
+pub mod FirstStore
+pub mod Moving

@@ -1,0 +1,5 @@
+pub mod Bears
+pub mod FirstBooks
+pub mod Memory
+pub mod Stops
+pub mod Transfers

@@ -1,0 +1,5 @@
+//! Tests of scripts and texts alone.
+#![tactic(auto)]
+
+#[cfg(test)]
+mod text_tests;
