@@ -1,9 +1,17 @@
 pub mod Answered
 pub mod Built
+pub mod Commands
 pub mod Items
+pub mod LineFaults
+pub mod Numbers
 pub mod OutcomeTexts
+pub mod Parts
+pub mod Progress
 pub mod RefusalTexts
 pub mod ReplyLaw
 pub mod ReplyTexts
 pub mod ReportTexts
+pub mod Script
+pub mod ScriptLaws
 pub mod Texts
+pub mod Words

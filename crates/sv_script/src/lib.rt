@@ -3,12 +3,14 @@
 
 mod commands;
 mod outcomes;
+mod parsing;
 mod replies;
 mod scripts;
 mod texts;
 
 pub use commands::Command;
 pub use outcomes::Outcome;
+pub use parsing::parse;
 pub use replies::{LaneReport, Reply, Tail};
 pub use scripts::{BadKind, BadLine, Line, Script, ScriptError};
 pub use texts::{no_memory_text, outcome_text, reply_text, report_text, tail_text};

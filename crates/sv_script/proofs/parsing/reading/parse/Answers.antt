@@ -1,0 +1,10 @@
+use Rattle.std.proofs.Common.{Result, Ok, Err, IfOk}
+use Rattle.sv_script.specs.declared.scripts.Script.{Script}
+use Rattle.sv_script.specs.declared.scripts.ScriptError.{ScriptError}
+use Rattle.sv_script.specs.Script.{IsParsed, script_of}
+use Rattle.sv_script.specs.ScriptLaws.{IsWellFormed}
+use Rattle.sv_script.proofs.ScriptLines.{parsed_well}
+use Rattle.sv_script.proofs.parsing.reading.parse.Goals as goal
+
+pub returns-clause-well_formed : goal.returns-clause-well_formed
+returns-clause-well_formed c = parsed_well c.args.bytes.now c.script_from.result c.script_from.ensures.script
