@@ -32,129 +32,136 @@ fn expect_reply(rt: &impl Abort, alloc: Global, reply: &Reply, text: &str) -> Re
     Ok(())
 }
 
+const REPLIES: [(Reply, &str); 16] = [
+    (Reply::Put(1), "ok put 1"),
+    (Reply::Delete(262_144), "ok delete 262144"),
+    (
+        Reply::Absent {
+            cut: 0,
+            sv: SvSerial(1),
+        },
+        "absent cut 0 sv 1",
+    ),
+    (
+        Reply::Flush {
+            number: FileNumber(1),
+            from: 0,
+            to: 120,
+        },
+        "ok flush file 1 from 0 to 120",
+    ),
+    (
+        Reply::Compact {
+            number: FileNumber(1_048_576),
+            from: 0,
+            to: u64::MAX,
+        },
+        "ok compact file 1048576 from 0 to 18446744073709551615",
+    ),
+    (Reply::Create(FamilyId(1)), "ok create 1"),
+    (Reply::Open(FamilyId(0)), "ok open 0"),
+    (Reply::Release, "ok release"),
+    (Reply::Drop, "ok drop"),
+    (Reply::Set(SvSerial(2)), "ok set sv 2"),
+    (
+        Reply::Pin {
+            pin: 15,
+            sv: SvSerial(6),
+        },
+        "ok pin 15 sv 6",
+    ),
+    (Reply::Unpin, "ok unpin"),
+    (Reply::Hold(255), "ok hold 255"),
+    (Reply::Unhold(0), "ok unhold 0"),
+    (Reply::Rest(16), "ok rest 16"),
+    (Reply::Refused(Refusal::OutOfMemory), "no memory"),
+];
+
 #[test]
-fn prints_replies_to_writes_and_reads(rt: HostRuntime) -> Result<(), Fail> {
+fn prints_replies(rt: HostRuntime) -> Result<(), Fail> {
     let alloc = rt.alloc();
-    let absent = Reply::Absent {
-        cut: 0,
-        sv: SvSerial(1),
-    };
-    let flush = Reply::Flush {
-        number: FileNumber(1),
-        from: 0,
-        to: 120,
-    };
-    let compact = Reply::Compact {
-        number: FileNumber(1_048_576),
-        from: 0,
-        to: u64::MAX,
-    };
-    expect_reply(&rt, alloc, &Reply::Put(1), "ok put 1")?;
-    expect_reply(&rt, alloc, &Reply::Delete(262_144), "ok delete 262144")?;
-    expect_reply(&rt, alloc, &found(alloc, b"1", 3, 4)?, "found 1 cut 3 sv 4")?;
-    expect_reply(&rt, alloc, &absent, "absent cut 0 sv 1")?;
-    expect_reply(&rt, alloc, &flush, "ok flush file 1 from 0 to 120")?;
-    let text = "ok compact file 1048576 from 0 to 18446744073709551615";
-    expect_reply(&rt, alloc, &compact, text)
+    for (reply, text) in &REPLIES {
+        expect_reply(&rt, alloc, reply, text)?;
+    }
+    Ok(())
 }
 
 #[test]
-fn prints_other_replies(rt: HostRuntime) -> Result<(), Fail> {
+fn prints_lists_of_files(rt: HostRuntime) -> Result<(), Fail> {
     let alloc = rt.alloc();
-    let pin = Reply::Pin {
-        pin: 15,
-        sv: SvSerial(6),
-    };
+    expect_reply(&rt, alloc, &Reply::Live(files(alloc, &[])?), "ok live")?;
     let few = files(alloc, &[1, 20, 300])?;
-    for (reply, text) in [
-        (Reply::Create(FamilyId(1)), "ok create 1"),
-        (Reply::Open(FamilyId(0)), "ok open 0"),
-        (Reply::Release, "ok release"),
-        (Reply::Drop, "ok drop"),
-        (Reply::Set(SvSerial(2)), "ok set sv 2"),
-        (pin, "ok pin 15 sv 6"),
-        (Reply::Unpin, "ok unpin"),
-        (Reply::Hold(255), "ok hold 255"),
-        (Reply::Unhold(0), "ok unhold 0"),
-        (Reply::Live(files(alloc, &[])?), "ok live"),
-        (Reply::Purge(few), "ok purge 1 20 300"),
-        (Reply::Scan(files(alloc, &[9])?), "ok scan 9"),
-        (Reply::Rest(16), "ok rest 16"),
-    ] {
-        expect_reply(&rt, alloc, &reply, text)?;
+    expect_reply(&rt, alloc, &Reply::Purge(few), "ok purge 1 20 300")?;
+    expect_reply(&rt, alloc, &Reply::Scan(files(alloc, &[9])?), "ok scan 9")
+}
+
+const REFUSALS: [(Refusal, &str); 26] = [
+    (Refusal::KeyLength { length: 65 }, "refused 1 KeyLength 65"),
+    (
+        Refusal::ValueLength { length: 1025 },
+        "refused 2 ValueLength 1025",
+    ),
+    (Refusal::TooManyLive, "refused 3 TooManyLive"),
+    (Refusal::RegisterFull, "refused 4 RegisterFull"),
+    (Refusal::NameTaken, "refused 5 NameTaken"),
+    (Refusal::TooManyFamilies, "refused 6 TooManyFamilies"),
+    (Refusal::NoFamily, "refused 7 NoFamily"),
+    (Refusal::AlreadyOpen, "refused 8 AlreadyOpen"),
+    (Refusal::NotOpen, "refused 9 NotOpen"),
+    (Refusal::IsDefault, "refused 10 IsDefault"),
+    (Refusal::Dropped, "refused 11 Dropped"),
+    (
+        Refusal::BadOption {
+            value: 0,
+            least: 1,
+            greatest: 65_536,
+        },
+        "refused 12 BadOption 0 1 65536",
+    ),
+    (Refusal::NoHold, "refused 13 NoHold"),
+    (Refusal::Disabled { count: 3 }, "refused 14 Disabled 3"),
+    (Refusal::Stalled, "refused 15 Stalled"),
+    (Refusal::NothingToFlush, "refused 16 NothingToFlush"),
+    (Refusal::JournalFull, "refused 17 JournalFull"),
+    (Refusal::TooManyMemtables, "refused 18 TooManyMemtables"),
+    (Refusal::TooManyPins, "refused 19 TooManyPins"),
+    (Refusal::NoPin, "refused 20 NoPin"),
+    (Refusal::DirFault { number: 0 }, "refused 21 DirFault 0"),
+    (
+        Refusal::BadFile {
+            number: 2,
+            place: 29,
+        },
+        "refused 22 BadFile 2 29",
+    ),
+    (Refusal::Busy { number: 10 }, "refused 23 Busy 10"),
+    (Refusal::NothingToCompact, "refused 24 NothingToCompact"),
+    (Refusal::TooManyHolds, "refused 25 TooManyHolds"),
+    (Refusal::OutOfMemory, "no memory"),
+];
+
+#[test]
+fn prints_refusals(rt: HostRuntime) -> Result<(), Fail> {
+    let alloc = rt.alloc();
+    for (refusal, text) in &REFUSALS {
+        expect_reply(&rt, alloc, &Reply::Refused(*refusal), text)?;
     }
     Ok(())
 }
 
-#[test]
-fn prints_refusals_without_fields(rt: HostRuntime) -> Result<(), Fail> {
-    let alloc = rt.alloc();
-    for (refusal, text) in [
-        (Refusal::TooManyLive, "refused 3 TooManyLive"),
-        (Refusal::RegisterFull, "refused 4 RegisterFull"),
-        (Refusal::NameTaken, "refused 5 NameTaken"),
-        (Refusal::TooManyFamilies, "refused 6 TooManyFamilies"),
-        (Refusal::NoFamily, "refused 7 NoFamily"),
-        (Refusal::AlreadyOpen, "refused 8 AlreadyOpen"),
-        (Refusal::NotOpen, "refused 9 NotOpen"),
-        (Refusal::IsDefault, "refused 10 IsDefault"),
-        (Refusal::Dropped, "refused 11 Dropped"),
-        (Refusal::NoHold, "refused 13 NoHold"),
-        (Refusal::Stalled, "refused 15 Stalled"),
-        (Refusal::NothingToFlush, "refused 16 NothingToFlush"),
-        (Refusal::JournalFull, "refused 17 JournalFull"),
-        (Refusal::TooManyMemtables, "refused 18 TooManyMemtables"),
-        (Refusal::TooManyPins, "refused 19 TooManyPins"),
-        (Refusal::NoPin, "refused 20 NoPin"),
-        (Refusal::NothingToCompact, "refused 24 NothingToCompact"),
-        (Refusal::TooManyHolds, "refused 25 TooManyHolds"),
-        (Refusal::OutOfMemory, "no memory"),
-    ] {
-        expect_reply(&rt, alloc, &Reply::Refused(refusal), text)?;
-    }
-    Ok(())
-}
-
-#[test]
-fn prints_refusals_with_fields(rt: HostRuntime) -> Result<(), Fail> {
-    let alloc = rt.alloc();
-    let option = Refusal::BadOption {
-        value: 0,
-        least: 1,
-        greatest: 65_536,
-    };
-    let file = Refusal::BadFile {
-        number: 2,
-        place: 29,
-    };
-    for (refusal, text) in [
-        (Refusal::KeyLength { length: 65 }, "refused 1 KeyLength 65"),
-        (
-            Refusal::ValueLength { length: 1025 },
-            "refused 2 ValueLength 1025",
-        ),
-        (option, "refused 12 BadOption 0 1 65536"),
-        (Refusal::Disabled { count: 3 }, "refused 14 Disabled 3"),
-        (Refusal::DirFault { number: 0 }, "refused 21 DirFault 0"),
-        (file, "refused 22 BadFile 2 29"),
-        (Refusal::Busy { number: 10 }, "refused 23 Busy 10"),
-    ] {
-        expect_reply(&rt, alloc, &Reply::Refused(refusal), text)?;
-    }
-    Ok(())
-}
+const ITEMS: [(&[u8], &str); 6] = [
+    (b"", "%"),
+    (b"%", "%25"),
+    (b"aA~!09", "aA~!09"),
+    (b"a b", "a%20b"),
+    (b"\x00\n\x1f\x7f", "%00%0A%1F%7F"),
+    (b"\xab\xc3\xff", "%AB%C3%FF"),
+];
 
 #[test]
 fn prints_items(rt: HostRuntime) -> Result<(), Fail> {
     let alloc = rt.alloc();
-    for (value, item) in [
-        (b"".as_slice(), "%"),
-        (b"%".as_slice(), "%25"),
-        (b"aA~!09".as_slice(), "aA~!09"),
-        (b"a b".as_slice(), "a%20b"),
-        (b"\x00\n\x1f\x7f".as_slice(), "%00%0A%1F%7F"),
-        (b"\xab\xc3\xff".as_slice(), "%AB%C3%FF"),
-    ] {
+    for (value, item) in &ITEMS {
         let text = format!(in alloc; "found {item} cut 1 sv 1")?;
         expect_reply(&rt, alloc, &found(alloc, value, 1, 1)?, text.as_str())?;
     }
@@ -168,20 +175,24 @@ fn replies_around_a_drop(alloc: Global) -> Result<Items<(u64, Reply)>, Refusal> 
         from: 0,
         to: 1,
     };
-    let mut replies = Items::from_vec(Vec::new(alloc));
-    replies.push((1, Reply::Create(FamilyId(1))))?;
-    replies.push((2, Reply::Put(1)))?;
-    replies.push((3, flush))?;
-    replies.push((4, Reply::Drop))?;
-    replies.push((5, found(alloc, b"7", 1, 4)?))?;
-    replies.push((6, Reply::Refused(Refusal::Dropped)))?;
-    replies.push((7, Reply::Refused(Refusal::Dropped)))?;
-    replies.push((8, Reply::Refused(Refusal::Dropped)))?;
-    replies.push((9, Reply::Purge(files(alloc, &[])?)))?;
-    replies.push((10, Reply::Release))?;
-    replies.push((11, Reply::Refused(Refusal::NoFamily)))?;
-    replies.push((12, Reply::Purge(files(alloc, &[1])?)))?;
-    Ok(replies)
+    let value = found(alloc, b"7", 1, 4)?;
+    let none = files(alloc, &[])?;
+    let one = files(alloc, &[1])?;
+    let replies = vec![in alloc;
+        (1, Reply::Create(FamilyId(1))),
+        (2, Reply::Put(1)),
+        (3, flush),
+        (4, Reply::Drop),
+        (5, value),
+        (6, Reply::Refused(Refusal::Dropped)),
+        (7, Reply::Refused(Refusal::Dropped)),
+        (8, Reply::Refused(Refusal::Dropped)),
+        (9, Reply::Purge(none)),
+        (10, Reply::Release),
+        (11, Reply::Refused(Refusal::NoFamily)),
+        (12, Reply::Purge(one)),
+    ];
+    Ok(Items::from_vec(replies.map_err(OutOfMemory::from)?))
 }
 
 const ONE_USE: Tail = Tail {
@@ -291,43 +302,50 @@ strays seen 0 gone 0
     Ok(())
 }
 
+const OUTCOMES: [(Outcome, &str); 5] = [
+    (
+        Outcome::Usage,
+        "usage: svrun run [--dir PATH]\n       svrun trial N\n       svrun --help\n",
+    ),
+    (Outcome::ScriptTooLong, "script too long\n"),
+    (Outcome::ReadFault, "read fault\n"),
+    (Outcome::DirFault, "directory fault\n"),
+    (Outcome::OutOfMemory, "no memory\n"),
+];
+
 #[test]
 fn prints_where_no_report_is_due(rt: HostRuntime) -> Result<(), Fail> {
     let alloc = rt.alloc();
-    let usage = "usage: svrun run [--dir PATH]
-       svrun trial N
-       svrun --help
-";
-    for (outcome, text) in [
-        (Outcome::Usage, usage),
-        (Outcome::ScriptTooLong, "script too long\n"),
-        (Outcome::ReadFault, "read fault\n"),
-        (Outcome::DirFault, "directory fault\n"),
-        (Outcome::OutOfMemory, "no memory\n"),
-    ] {
-        let printed = outcome_text(alloc, outcome)?;
+    for (outcome, text) in &OUTCOMES {
+        let printed = outcome_text(alloc, *outcome)?;
         assert_eq!(rt; printed.as_slice(), text.as_bytes());
     }
     assert_eq!(rt; no_memory_text(), b"no memory\n".as_slice());
     Ok(())
 }
 
+const KINDS: [(BadKind, &str); 9] = [
+    (BadKind::Commands, "commands"),
+    (BadKind::Lane, "lane"),
+    (BadKind::Command, "command"),
+    (BadKind::Count, "count"),
+    (BadKind::Name, "name"),
+    (BadKind::Item, "item"),
+    (BadKind::Number, "number"),
+    (BadKind::Option, "option"),
+    (BadKind::Unbuilt, "unbuilt"),
+];
+
 #[test]
 fn prints_bad_lines(rt: HostRuntime) -> Result<(), Fail> {
     let alloc = rt.alloc();
-    for (kind, word) in [
-        (BadKind::Commands, "commands"),
-        (BadKind::Lane, "lane"),
-        (BadKind::Command, "command"),
-        (BadKind::Count, "count"),
-        (BadKind::Name, "name"),
-        (BadKind::Item, "item"),
-        (BadKind::Number, "number"),
-        (BadKind::Option, "option"),
-        (BadKind::Unbuilt, "unbuilt"),
-    ] {
+    for (kind, word) in &KINDS {
         let due = format!(in alloc; "bad script line 12: {word}\n")?;
-        let printed = outcome_text(alloc, Outcome::BadScript(BadLine { line: 12, kind }))?;
+        let bad = BadLine {
+            line: 12,
+            kind: *kind,
+        };
+        let printed = outcome_text(alloc, Outcome::BadScript(bad))?;
         assert_eq!(rt; printed.as_slice(), due.as_bytes());
     }
     Ok(())
