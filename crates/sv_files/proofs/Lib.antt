@@ -1,0 +1,3 @@
+mod Books
+mod KeptLemmas
+mod LawLemmas

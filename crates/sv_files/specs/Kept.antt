@@ -1,0 +1,19 @@
+-- What the book keeps beside the register.
+use Rattle.std.specs.Prelude.{◌≡◌, ◌≤◌, ◌<◌, ℕ, suc, List, Option, Some, slice_get, length}
+use Rattle.std.specs.Ordering.{nat_cmp}
+use Rattle.std.specs.BTreeMap.{BTreeMap, get}
+use Rattle.sv_model.specs.declared.records.RegisteredFile.{RegisteredFile}
+use Rattle.sv_model.specs.declared.records.FileStatus.TheVariants.{Gone}
+use Rattle.sv_files.specs.Laws.{FileLaws, captures}
+
+-- The map has the position of each number that is not Gone, and nothing else.
+pub record KeepsPositions (kept : BTreeMap ℕ ℕ) (numbers : List RegisteredFile) : Type 0 where
+  pub found : (n p : ℕ) → get nat_cmp kept n ≡ Some p → (x : RegisteredFile) × (slice_get numbers p ≡ Some x) × (x.number ≡ n) × (x.status ≡ Gone → ⊥)
+  pub has : (p : ℕ) (x : RegisteredFile) → slice_get numbers p ≡ Some x → (x.status ≡ Gone → ⊥) → get nat_cmp kept x.number ≡ Some p
+
+-- What holds of a book's fields.
+pub record IsFileBook (numbers : List RegisteredFile) (kept : BTreeMap ℕ ℕ) (captured : List (Option ℕ)) (made next : ℕ) : Type 0 where
+  pub laws : FileLaws numbers captured next
+  pub positions : KeepsPositions kept numbers
+  pub counted : made ≡ captures numbers
+  pub few : made ≤ 1048576
