@@ -1,4 +1,8 @@
+pub mod Completing
 pub mod FirstStore
 pub mod Moving
+pub mod PlayedLines
+pub mod Running
+pub mod Sending
 pub mod Stepping
 pub mod Telling

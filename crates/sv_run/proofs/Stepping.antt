@@ -47,9 +47,9 @@ handled false h = absurd (cc)
 pub look-front : (journal more : List Write) (key : List ℕ) → All IsFirst journal → look (journal ++ more) 0 (length journal) key ≡ look journal 0 (length journal) key
 look-front journal more key each =
     let whole : take (length journal) (of_family 0 (journal ++ more)) ≡ take (length journal) (of_family 0 journal) =
-            ap (take (length journal)) (filter-append (λ (w : Write). w.family == 0) journal more ∙ ap (λ z. z ++ of_family 0 more) (of_family-all journal each))
-            ∙ take-append-le (length journal) journal (of_family 0 more) (omega arith)
-            ∙ ap (take (length journal)) (sym (of_family-all journal each)) in
+    ap (take (length journal)) (filter-append (λ (w : Write). w.family == 0) journal more ∙ ap (λ z. z ++ of_family 0 more) (of_family-all journal each))
+    ∙ take-append-le (length journal) journal (of_family 0 more) (omega arith)
+    ∙ ap (take (length journal)) (sym (of_family-all journal each)) in
     ap (λ z. option_and_then value_of (newest_op key (rows_of z))) whole
 
 -- a SuperVersion of an earlier register is in the later one, with the same descriptor
@@ -58,10 +58,10 @@ serves_all a later n cut one after is whole =
     let there : entry a.supers 1 ≡ Some (first_super false) = ap (λ (z : Books). entry z.supers 1) one.opened in
     let kept = after.supers 1 (first_super false) there in
     let longer : length a.journal ≤ length (borne_by 1 later.journal) =
-            subst (λ z. length a.journal ≤ length (borne_by 1 z)) (sym after.journal.1)
-              (subst (λ z. length a.journal ≤ length z) (sym (filter-append (λ (w : Write). w.mem == 1) a.journal after.journal.0))
-                (subst (λ z. length a.journal ≤ length (z ++ borne_by 1 after.journal.0)) (sym (borne_by-all a.journal one.each))
-                  (omega (arith, length-append a.journal (borne_by 1 after.journal.0))))) in
+    subst (λ z. length a.journal ≤ length (borne_by 1 z)) (sym after.journal.1)
+    (subst (λ z. length a.journal ≤ length z) (sym (filter-append (λ (w : Write). w.mem == 1) a.journal after.journal.0))
+    (subst (λ z. length a.journal ≤ length (z ++ borne_by 1 after.journal.0)) (sym (borne_by-all a.journal one.each))
+    (omega (arith, length-append a.journal (borne_by 1 after.journal.0))))) in
     let active : length (borne_by kept.0.descriptor.active later.journal) ≡ length (borne_by 1 later.journal) = ap (λ (d : Descriptor). length (borne_by d.active later.journal)) kept.2.descriptor in
     let base : kept.0.descriptor.base ≡ 0 = ap (λ (d : Descriptor). d.base) kept.2.descriptor in
     let family : kept.0.descriptor.family ≡ 0 = ap (λ (d : Descriptor). d.family) kept.2.descriptor in
@@ -81,7 +81,7 @@ written old new later earlier key o n one changed number far after =
     let there : entry (of_family 0 later.journal) n ≡ Some w = ap (λ z. entry (of_family 0 z) n) journal ∙ ap (λ k. entry (of_family 0 ((old.journal ++ w ∷ []) ++ after.journal.0)) k) next ∙ next_write old.journal w after.journal.0 one.each refl in
     record {
       later = omega (arith, number, far);
-      written = subst (λ z. IsSomeAnd z (IsWrite 0 key o)) (sym there) (record { lane_is = refl; key_is = refl; op_is = refl })
+      written = subst (λ z. IsSomeAnd z (IsWrite 0 key o)) (sym there) (record { lane_is = refl; key_is = refl; op_is = refl });
     }
 
 -- how long the journal is after a write
@@ -101,7 +101,7 @@ put_steps old new family key value n one none number changed =
       shown = omega (arith, number, grown old new (first_write key (op.Put value)) changed);
       serial = omega arith;
       cut = tt;
-      fits = λ earlier count far newest later after. (subst (λ z. first_due (key_fault (length key) ∷ value_fault (length value) ∷ handle_fault (handle_of [] family) ∷ room_fault z ∷ []) ≡ None) (sym count) none, through family (Writes later 0 earlier key (op.Put value) n) d3.0 (written old new later earlier key (op.Put value) n one changed number far after))
+      fits = λ earlier count far newest later after. (subst (λ z. first_due (key_fault (length key) ∷ value_fault (length value) ∷ handle_fault (handle_of [] family) ∷ room_fault z ∷ []) ≡ None) (sym count) none, through family (Writes later 0 earlier key (op.Put value) n) d3.0 (written old new later earlier key (op.Put value) n one changed number far after));
     }
 
 pub delete_steps : (old new : Books) (family key : List ℕ) (n : ℕ) → IsOneLane old → first_due (key_fault (length key) ∷ handle_fault (handle_of [] family) ∷ room_fault (length old.journal) ∷ []) ≡ None → n ≡ length old.journal + 1 → new ≡ record old { journal = old.journal ++ first_write key op.Delete ∷ [] } → Steps old new (command.Delete family key) (reply.Delete n)
@@ -113,7 +113,7 @@ delete_steps old new family key n one none number changed =
       shown = omega (arith, number, grown old new (first_write key op.Delete) changed);
       serial = omega arith;
       cut = tt;
-      fits = λ earlier count far newest later after. (subst (λ z. first_due (key_fault (length key) ∷ handle_fault (handle_of [] family) ∷ room_fault z ∷ []) ≡ None) (sym count) none, through family (Writes later 0 earlier key op.Delete n) d2.0 (written old new later earlier key op.Delete n one changed number far after))
+      fits = λ earlier count far newest later after. (subst (λ z. first_due (key_fault (length key) ∷ handle_fault (handle_of [] family) ∷ room_fault z ∷ []) ≡ None) (sym count) none, through family (Writes later 0 earlier key op.Delete n) d2.0 (written old new later earlier key op.Delete n one changed number far after));
     }
 
 -- a read of all so far is one in all books that come after
@@ -123,8 +123,8 @@ gets old later earlier key found cut sv one looked whole serial far newest after
   newer = omega (arith, serial, newest);
   looks = record {
     serves = serves_all old later sv cut one after serial whole;
-    found_is = ap (λ z. look later.journal 0 z key) whole ∙ ap (λ z. look z 0 (length old.journal) key) after.journal.1 ∙ look-front old.journal after.journal.0 key one.each ∙ looked
-  }
+    found_is = ap (λ z. look later.journal 0 z key) whole ∙ ap (λ z. look z 0 (length old.journal) key) after.journal.1 ∙ look-front old.journal after.journal.0 key one.each ∙ looked;
+  };
 }
 
 handle_due : (family key : List ℕ) → first_due (key_fault (length key) ∷ handle_fault (handle_of [] family) ∷ []) ≡ None → handle_fault (handle_of [] family) ≡ None
@@ -136,12 +136,12 @@ get_steps old family key (Some value) cut sv one none looked whole serial = reco
   shown = omega (arith, whole);
   serial = omega (arith, serial);
   cut = whole;
-  fits = λ earlier count far newest later after. (none, through family (Gets later earlier key (Some value) cut sv) (handle_due family key none) (gets old later earlier key (Some value) cut sv one looked whole serial far newest after))
+  fits = λ earlier count far newest later after. (none, through family (Gets later earlier key (Some value) cut sv) (handle_due family key none) (gets old later earlier key (Some value) cut sv one looked whole serial far newest after));
 }
 get_steps old family key None cut sv one none looked whole serial = record {
   books = ap (λ z. record old { journal = z }) (sym (append-nil old.journal));
   shown = omega (arith, whole);
   serial = omega (arith, serial);
   cut = whole;
-  fits = λ earlier count far newest later after. (none, through family (Gets later earlier key None cut sv) (handle_due family key none) (gets old later earlier key None cut sv one looked whole serial far newest after))
+  fits = λ earlier count far newest later after. (none, through family (Gets later earlier key None cut sv) (handle_due family key none) (gets old later earlier key None cut sv one looked whole serial far newest after));
 }

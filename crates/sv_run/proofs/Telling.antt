@@ -34,13 +34,13 @@ some x y e = cc
 
 each-push : (P : List Answered → Answered → Type 0) (all : List Answered) (x : Answered) → EachAfter P all → P all x → EachAfter P (all ++ x ∷ [])
 each-push P all x each here k a at = elim (cases_lt k (length all)) [
-    inl lt ↦ subst (λ z. P z a) (sym (take-append-le k all (x ∷ []) (omega arith))) (each k a (sym (slice_get-before all x k lt) ∙ at))
+  | inl lt ↦ subst (λ z. P z a) (sym (take-append-le k all (x ∷ []) (omega arith))) (each k a (sym (slice_get-before all x k lt) ∙ at))
   | inr ge ↦
       let last : k ≡ length all = omega (arith, slice_get_within (all ++ x ∷ []) k a at, length_push all x) in
       let same : a ≡ x = some a x (sym at ∙ ap (slice_get (all ++ x ∷ [])) last ∙ slice_get-last all x) in
       let before : take k (all ++ x ∷ []) ≡ all = ap (λ z. take z (all ++ x ∷ [])) last ∙ take-append-le (length all) all (x ∷ []) (omega arith) ∙ take_all (length all) all (omega arith) in
       subst (λ z. P z a) (sym before) (subst (λ z. P all z) (sym same) here)
-  ]
+]
 
 -- what comes after what comes after
 goes_on-trans : {A : Type 0} (R : A → A → Type 0) → ((x y z : A) → R x y → R y z → R x z) → (a b c : List A) → GoesOn R a b → GoesOn R b c → GoesOn R a c
@@ -59,7 +59,7 @@ after-trans a b c f g = record {
   memtables = goes_on-trans KeepsMemtable (λ x y z p q. record { family = q.family ∙ p.family; first = q.first ∙ p.first; cell = q.cell ∙ p.cell; gone = λ h. q.gone (p.gone h) }) a.memtables b.memtables c.memtables f.memtables g.memtables;
   lists = goes_on-trans KeepsList (λ x y z p q. record { members = q.members ∙ p.members; gone = λ h. q.gone (p.gone h) }) a.lists b.lists c.lists f.lists g.lists;
   versions = goes_on-trans KeepsVersion (λ x y z p q. record { files = q.files ∙ p.files; gone = λ h. q.gone (p.gone h) }) a.versions b.versions c.versions f.versions g.versions;
-  next = omega (arith, f.next, g.next)
+  next = omega (arith, f.next, g.next);
 }
 
 -- books come after the same with a shorter journal
@@ -70,7 +70,7 @@ after-write a ws = record {
   memtables = λ n x at. (x, at, record { family = refl; first = refl; cell = refl; gone = λ h. h });
   lists = λ n x at. (x, at, record { members = refl; gone = λ h. h });
   versions = λ n x at. (x, at, record { files = refl; gone = λ h. h });
-  next = omega arith
+  next = omega arith;
 }
 
 seen-push : (all : List Answered) (x : Answered) (n : ℕ) → seen all ≤ n → shown_by x.reply ≤ n → seen (all ++ x ∷ []) ≤ n
@@ -98,7 +98,7 @@ one_lane-step old new c r one changed =
     let same : new.journal ≡ journal = ap (λ (z : Books). z.journal) changed in
     record {
       opened = changed ∙ ap (λ (z : Books). record z { journal = journal }) one.opened ∙ ap (first_books false) (sym same);
-      each = subst (λ z. All IsFirst z) (sym same) (All-append IsFirst old.journal (writes_of (change_asked c r)) one.each (firsts (change_asked c r)))
+      each = subst (λ z. All IsFirst z) (sym same) (All-append IsFirst old.journal (writes_of (change_asked c r)) one.each (firsts (change_asked c r)));
     }
 
 pub told-push : (old new : Books) (all : List Answered) (c : Command) (r : Reply) → Told old all → Steps old new c r → Told new (all ++ record { command = c; reply = r } ∷ [])
@@ -116,6 +116,6 @@ told-push old new all c r told step =
       serial = serial-push all x 1 told.serial step.serial;
       cuts = each-push (λ before a. CutIs (length (accepted before)) a.reply) all x told.cuts (subst (λ n. CutIs n r) (sym count) step.cut);
       fits = λ later after. each-push (λ before a. ReplyFits later 0 before a.command a.reply) all x
-        (told.fits later (after-trans old new later (subst (λ z. After old z) (sym step.books) (after-write old ws)) after))
-        (step.fits all count told.seen_is told.serial later after)
+          (told.fits later (after-trans old new later (subst (λ z. After old z) (sym step.books) (after-write old ws)) after))
+          (step.fits all count told.seen_is told.serial later after);
     }

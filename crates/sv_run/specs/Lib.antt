@@ -1,4 +1,6 @@
 pub mod Bears
+pub mod Ends
+pub mod ExitCodes
 pub mod FirstBooks
 pub mod Memory
 pub mod Steps

@@ -3,7 +3,9 @@ use Rattle.std.specs.Prelude.{◌≡◌, ◌≤◌, List, ℕ, map, length}
 use Rattle.sv_model.specs.Journal.{change_of}
 use Rattle.sv_model.specs.Books.{Books}
 use Rattle.sv_model.specs.After.{After}
-use Rattle.sv_script.specs.Answered.{Answered, accepted, seen, newest_serial}
+use Rattle.sv_script.specs.declared.Line.{Line}
+use Rattle.sv_script.specs.declared.Reply.{Reply}
+use Rattle.sv_script.specs.Answered.{Answered, answered, accepted, seen, newest_serial}
 use Rattle.sv_script.specs.ReplyLaw.{RepliesFit, GetsSeeAll}
 use Rattle.sv_run.specs.Steps.{IsOneLane}
 
@@ -16,3 +18,8 @@ pub record Told (books : Books) (all : List Answered) : Type 0 where
   pub serial : newest_serial all ≤ 1
   pub cuts : GetsSeeAll all
   pub fits : (later : Books) → After books later → RepliesFit later 0 all
+
+-- Each line has one reply, in order, and the lane was told so.
+pub record Played (books : Books) (lines : List Line) (replies : List (ℕ × Reply)) : Type 0 where
+  pub numbers : map (λ (r : ℕ × Reply). r.0) replies ≡ map (λ line. line.line) lines
+  pub told : Told books (answered lines replies)

@@ -24,7 +24,13 @@ fn find_family(family: &Name) -> Result<(), Refusal>
     }
 }
 
-fn put(alloc: Global, plain: &mut Plain, family: &Name, key: &[u8], value: &[u8]) -> Result<u64, Refusal>
+fn put(
+    alloc: Global,
+    plain: &mut Plain,
+    family: &Name,
+    key: &[u8],
+    value: &[u8],
+) -> Result<u64, Refusal>
     ensures refused { Refuses (first_due (key_fault (length key.now) ∷ value_fault (length value.now)
         ∷ handle_fault (handle_of [] family.now) ∷ room_fault (length plain.old.journal) ∷ [])) result }
     ensures number { IfOk result (λ n. n ≡ length plain.old.journal + 1) }

@@ -1,17 +1,18 @@
 // The store that one lane runs over at this stage: one family, one memtable, no files.
-ghost use Rattle.std.specs.Prelude.{◌≡◌, ◌+◌, ◌<◌, ◌++◌, ◌∷◌, [], IfOk, OnErr, true, false, length, option_and_then};
+ghost use Rattle.std.specs.Prelude.{◌≡◌, ◌+◌, ◌<◌, ◌++◌, ◌∷◌, [], IfOk, OnErr, true, false, length, option_and_then, codes};
 ghost use Rattle.sv_model.specs.Refusals.{Refuses};
 ghost use Rattle.std.specs.Option.{option_copied};
 ghost use Rattle.sv_model.specs.Journal.{look, value_of};
 ghost use Rattle.sv_script.specs.ReplyLaw.{room_fault};
-ghost use Rattle.sv_run.specs.FirstBooks.{first_books, first_write};
+ghost use Rattle.sv_model.specs.Summaries.{summary_of};
+ghost use Rattle.sv_run.specs.FirstBooks.{first_books, first_line, first_totals, first_write};
 
 use std::alloc::Global;
 use std::marker::Model;
 use sv_memtable::MemCell;
 use sv_model::{
-    End, FamilyId, FamilyLine, Items, Key, MemId, Name, Op, OutOfMemory, Refusal, Summary, SvSerial,
-    Totals, Value, Write,
+    End, FamilyId, FamilyLine, Items, Key, MemId, Name, Op, OutOfMemory, Refusal, Summary,
+    SvSerial, Totals, Value, Write,
 };
 
 /// How many rows the one memtable takes.
@@ -55,6 +56,42 @@ fn value_left(found: Option<&Op>) -> Result<Option<Value>, OutOfMemory>
         Some(Op::Put(value)) => Ok(Some(value.clone()?)),
         Some(Op::Delete) => Ok(None),
         None => Ok(None),
+    }
+}
+
+fn default_name(alloc: Global) -> Result<Name, OutOfMemory>
+    ensures { IfOk result (λ name. name ≡ codes "default") }
+{
+    match Name::new(alloc, b"default")? {
+        Some(name) => Ok(name),
+        None => unreachable!(),
+    }
+}
+
+// The line of `default` with so many writes, and no other.
+fn first_families(alloc: Global, writes: u64) -> Result<Items<FamilyLine>, OutOfMemory>
+    ensures { IfOk result (λ lines. lines ≡ first_line writes ∷ []) }
+{
+    let mut families = Vec::new(alloc);
+    families.push(FamilyLine {
+        id: FamilyId(0),
+        name: default_name(alloc)?,
+        dropped: false,
+        writes,
+        files: Items::from_vec(Vec::new(alloc)),
+    })?;
+    Ok(Items::from_vec(families))
+}
+
+// The one SuperVersion and the one memtable, or nothing.
+fn first_totals(counted: bool) -> Totals
+    ensures { result ≡ first_totals counted }
+{
+    let one = u64::from(counted);
+    Totals {
+        superversions: one,
+        memtables: one,
+        files: 0,
     }
 }
 
@@ -118,6 +155,22 @@ impl Plain {
             value,
             cut: self.journal.len() as u64,
             sv: SvSerial(1),
+        })
+    }
+
+    /// The numbers of the report, with a clean end and nothing left.
+    pub fn summary(&self) -> Result<Summary, OutOfMemory>
+        ensures { IfOk result (λ summary. summary ≡ summary_of self.now) }
+    {
+        let families = first_families(self.alloc, self.journal.len() as u64)?;
+        Ok(Summary {
+            families,
+            made: first_totals(true),
+            gone: first_totals(self.closed),
+            strays_seen: 0,
+            strays_gone: 0,
+            end: End::Clean,
+            left: Items::from_vec(Vec::new(self.alloc)),
         })
     }
 

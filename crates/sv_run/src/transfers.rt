@@ -22,7 +22,11 @@ fn zeros(alloc: Global, count: usize) -> Result<Vec<u8>, AllocError>
 }
 
 // Reads one piece onto the end of the bytes, and says how long it was: 0 at the end of the input.
-fn read_piece<S: Source>(source: &mut S, buffer: &mut Vec<u8>, bytes: &mut Vec<u8>) -> Result<usize, ReadStop>
+fn read_piece<S: Source>(
+    source: &mut S,
+    buffer: &mut Vec<u8>,
+    bytes: &mut Vec<u8>,
+) -> Result<usize, ReadStop>
     requires some { 0 < vec_len buffer.old }
     ensures moved { IfOk result (MovesPiece (S.left source.old) (S.left source.new) bytes.old.items bytes.new.items) }
     ensures count { IfOk result (λ n. n ≤ vec_len buffer.old) }

@@ -8,7 +8,7 @@ invariant-loop-buffer g l = record {
   room : 0 < vec_len l.buffer;
   few : vec_len l.bytes ≤ 16777217;
   later : g.S.Source.faults l.initial.source ≤ g.S.Source.faults l.source;
-  took : Consumes (g.S.Source.left l.initial.source) (g.S.Source.left l.source) l.bytes.items
+  took : Consumes (g.S.Source.left l.initial.source) (g.S.Source.left l.source) l.bytes.items;
 }
 
 abbrev pub decreases-loop-buffer : goal.decreases-loop-buffer

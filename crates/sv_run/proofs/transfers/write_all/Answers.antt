@@ -17,5 +17,5 @@ loop-sent-preserved g c =
     record {
       within = omega (arith, few);
       later = omega arith;
-      front = appends_more (g.K.Sink.written c.args.sink.now) (g.K.Sink.written c.loop-sent.sink) (g.K.Sink.written c.write.new.self) text sent n c.loop-sent.invariant.front (subst (λ z. Appends (g.K.Sink.written c.loop-sent.sink) (g.K.Sink.written c.write.new.self) z) (take-take n (length text - sent) rest few) piece)
+      front = appends_more (g.K.Sink.written c.args.sink.now) (g.K.Sink.written c.loop-sent.sink) (g.K.Sink.written c.write.new.self) text sent n c.loop-sent.invariant.front (subst (λ z. Appends (g.K.Sink.written c.loop-sent.sink) (g.K.Sink.written c.write.new.self) z) (take-take n (length text - sent) rest few) piece);
     }

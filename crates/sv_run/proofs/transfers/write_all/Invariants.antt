@@ -7,7 +7,7 @@ abbrev pub invariant-loop-sent : goal.invariant-loop-sent
 invariant-loop-sent g l = record {
   within : l.sent ≤ length l.text;
   later : g.K.Sink.faults l.initial.sink ≤ g.K.Sink.faults l.sink;
-  front : Appends (g.K.Sink.written l.initial.sink) (g.K.Sink.written l.sink) (take l.sent l.text)
+  front : Appends (g.K.Sink.written l.initial.sink) (g.K.Sink.written l.sink) (take l.sent l.text);
 }
 
 abbrev pub decreases-loop-sent : goal.decreases-loop-sent
