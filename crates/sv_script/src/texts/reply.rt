@@ -1,6 +1,7 @@
 // The texts of replies.
 ghost use Rattle.std.specs.Prelude.{◌≡◌, ◌++◌, OnOk, IfOk};
 ghost use Rattle.sv_script.specs.ReplyTexts.{answer_text, file_text, reply_text, seen_text};
+ghost use Rattle.sv_script.specs.Texts.{listed};
 
 use crate::replies::Reply;
 use crate::texts::pieces::{push_bytes, push_files, push_item, push_number, push_numbered};
@@ -23,6 +24,13 @@ fn push_file(out: &mut Vec<u8>, number: FileNumber, from: u64, to: u64) -> Resul
     push_numbered(out, b" file ", number.0)?;
     push_numbered(out, b" from ", from)?;
     push_numbered(out, b" to ", to)
+}
+
+fn push_list(out: &mut Vec<u8>, word: &[u8], numbers: &[FileNumber]) -> Result<(), OutOfMemory>
+    ensures { OnOk result (out.new.items ≡ out.old.items ++ (word.now ++ listed numbers.now)) }
+{
+    push_bytes(out, word)?;
+    push_files(out, numbers)
 }
 
 #[tactic(auto, unfolding(crate::specs::ReplyTexts::answer_text))]
@@ -61,18 +69,9 @@ fn push_answer(out: &mut Vec<u8>, reply: &Reply) -> Result<(), OutOfMemory>
         Reply::Unpin => push_bytes(out, b"ok unpin"),
         Reply::Hold(count) => push_numbered(out, b"ok hold ", *count as u64),
         Reply::Unhold(count) => push_numbered(out, b"ok unhold ", *count as u64),
-        Reply::Live(numbers) => {
-            push_bytes(out, b"ok live")?;
-            push_files(out, numbers.as_slice())
-        }
-        Reply::Purge(numbers) => {
-            push_bytes(out, b"ok purge")?;
-            push_files(out, numbers.as_slice())
-        }
-        Reply::Scan(numbers) => {
-            push_bytes(out, b"ok scan")?;
-            push_files(out, numbers.as_slice())
-        }
+        Reply::Live(numbers) => push_list(out, b"ok live", numbers.as_slice()),
+        Reply::Purge(numbers) => push_list(out, b"ok purge", numbers.as_slice()),
+        Reply::Scan(numbers) => push_list(out, b"ok scan", numbers.as_slice()),
         Reply::Rest(count) => push_numbered(out, b"ok rest ", *count as u64),
         Reply::Refused(refusal) => push_refusal(out, *refusal),
     }
