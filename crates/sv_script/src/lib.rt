@@ -10,7 +10,7 @@ mod texts;
 
 pub use commands::Command;
 pub use outcomes::Outcome;
-pub use parsing::parse;
+pub use parsing::{parse, printed_items_are_read};
 pub use replies::{LaneReport, Reply, Tail};
 pub use scripts::{BadKind, BadLine, Line, Script, ScriptError};
 pub use texts::{no_memory_text, outcome_text, reply_text, report_text, tail_text};

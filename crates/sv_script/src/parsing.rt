@@ -10,4 +10,5 @@ mod reading;
 mod splitting;
 mod verbs;
 
+pub use item_bytes::printed_items_are_read;
 pub use reading::parse;

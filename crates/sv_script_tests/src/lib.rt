@@ -2,4 +2,6 @@
 #![tactic(auto)]
 
 #[cfg(test)]
+mod parsing_tests;
+#[cfg(test)]
 mod text_tests;

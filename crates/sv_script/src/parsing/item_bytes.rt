@@ -1,7 +1,28 @@
 // Items: words that stand for bytes.
-ghost use Rattle.std.specs.Prelude.{◌≡◌, ◌<◌, ◌∷◌, ◌⊎◌, length, IfSome, IfNone, Some, None};
+ghost use Rattle.std.specs.Prelude.{
+  ◌≡◌,
+  ◌<◌,
+  ◌∷◌,
+  ◌⊎◌,
+  ℕ,
+  List,
+  All,
+  length,
+  IfSome,
+  IfNone,
+  Some,
+  None,
+};
 ghost use Rattle.sv_script.specs.declared.scripts.BadKind.TheVariants as kinds;
-ghost use Rattle.sv_script.specs.Items.{before, hex_value, is_plain, item_of, pair_value, units_of};
+ghost use Rattle.sv_script.specs.Items.{
+  before,
+  hex_value,
+  is_plain,
+  item_of,
+  item_text,
+  pair_value,
+  units_of,
+};
 ghost use Rattle.sv_script.specs.Parts.{Gives, or_bad};
 
 use crate::parsing::faults::Fault;
@@ -89,3 +110,8 @@ pub(crate) fn item(alloc: Global, word: &[u8]) -> Result<Items<u8>, Fault>
         _ => units(alloc, word),
     }
 }
+
+/// A law alone: what is printed for the bytes of an item is read as these bytes again.
+pub fn printed_items_are_read()
+    ensures again { (bytes : List ℕ) → All (λ byte. byte < 256) bytes → item_of (item_text bytes) ≡ Some bytes }
+{}
