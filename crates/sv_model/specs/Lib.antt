@@ -1,8 +1,10 @@
 pub mod After
 pub mod Books
+pub mod Flat
 pub mod Journal
 pub mod Names
 pub mod Reads
 pub mod Refusals
 pub mod Registers
 pub mod Summaries
+pub mod TableText

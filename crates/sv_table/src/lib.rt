@@ -1,0 +1,11 @@
+//! Table files: their bytes, looking up a key in one, and merging several into one.
+#![tactic(auto)]
+
+mod decoding;
+mod encoding;
+mod faults;
+mod fields;
+mod tables;
+
+pub use encoding::encode;
+pub use tables::Table;
