@@ -122,7 +122,8 @@ after From bytes = To (from_le_bytes w64 bytes)
 after (To from) bytes = Bottom from (from_le_bytes w64 bytes)
 after (Bottom from to) bytes = Count from to (byte bytes == 1)
 after (Count from to bottom) bytes = KeyLength bottom (from_le_bytes w32 bytes) []
-after (KeyLength bottom left last) bytes = KeyBytes bottom (left - 1) last (byte bytes)
+after (KeyLength bottom zero last) bytes = KeyLength bottom zero last
+after (KeyLength bottom (suc left) last) bytes = KeyBytes bottom left last (byte bytes)
 after (KeyBytes bottom left last len) bytes = OpMark bottom left bytes
 after (OpMark bottom left key) bytes = cond (byte bytes == 1) (ValueLength bottom left key) (KeyLength bottom left key)
 after (ValueLength bottom left key) bytes = ValueBytes bottom left key (from_le_bytes w16 bytes)

@@ -93,9 +93,13 @@ pub record Contents : Type 0 where
   pub bottom : Bool
   pub rows : List Row
 
+-- nothing follows the rows
+abbrev pub ended : Header → List Row × List ℕ → Result Contents ℕ
+ended h rows = if length rows.1 == 0 then Ok (record { from = h.from; to = h.to; bottom = h.bottom; rows = rows.0 }) else Err (length rows.1)
+
 -- all of the bytes
 unfoldable pub table_at : List ℕ → Result Contents ℕ
 table_at bytes = do
   header ← header_at bytes
   rows ← rows_at header.0.bottom header.0.count [] header.1
-  if length rows.1 == 0 then Ok (record { from = header.0.from; to = header.0.to; bottom = header.0.bottom; rows = rows.0 }) else Err (length rows.1)
+  ended header.0 rows

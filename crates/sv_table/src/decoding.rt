@@ -1,10 +1,11 @@
 // Reading a table's text, field by field.
 ghost use Rattle.std.specs.Prelude.{◌≡◌, ℕ, ◌-◌, Bool, List, [], length, IfOk, Ok};
 ghost use Rattle.sv_model.specs.declared.writes.Row.{Row};
-ghost use Rattle.sv_model.specs.TableText.{HasText, table_text, IsBadPlace};
+ghost use Rattle.sv_model.specs.TableText.{HasText, table_text};
+ghost use Rattle.sv_table.specs.Decoding.{Decodes, IsBadAt};
 ghost use Rattle.sv_table.specs.Reading.{Gives, Contents, header_at, key_at, value_at, op_at, row_at, rows_at, table_at};
 
-use crate::faults::ReadError;
+use crate::faults::{DecodeError, ReadError};
 use crate::fields::{byte_at, bytes_at, u16_at, u32_at, u64_at};
 use crate::tables::Table;
 use std::alloc::Global;
@@ -166,4 +167,23 @@ fn table_at(alloc: Global, bytes: &[u8]) -> Result<Table, ReadError>
         bottom: header.bottom,
         rows: Items::from_vec(rows),
     })
+}
+
+/// The table whose text the bytes are, all of them; else the place of the first bad field. Want of memory may stand
+/// in place of any answer.
+pub fn decode(alloc: Global, bytes: &[u8]) -> Result<Table, DecodeError>
+    // What is decoded is well formed, and the bytes are its text.
+    ensures read { IfOk result (λ t. HasText t.from t.to t.bottom t.rows × (bytes.now ≡ table_text t.from t.to t.bottom t.rows)) }
+    // The text of a table is decoded to that table.
+    ensures only { (from to : ℕ) (bottom : Bool) (rows : List Row) → HasText from to bottom rows → bytes.now ≡ table_text from to bottom rows → Decodes from to bottom rows result }
+    // The place is that of the first bad field.
+    ensures bad { IsBadAt bytes.now result }
+{
+    match table_at(alloc, bytes) {
+        Ok(table) => Ok(table),
+        Err(ReadError::Memory) => Err(DecodeError::OutOfMemory),
+        Err(ReadError::Bad(left)) => Err(DecodeError::Bad {
+            place: (bytes.len() - left) as u64,
+        }),
+    }
 }

@@ -11,6 +11,18 @@ pub enum ReadError {
     Bad(usize),
 }
 
+/// Why bytes were not decoded.
+#[derive(Clone, Copy, Debug, PartialEq, Eq)]
+pub enum DecodeError {
+    /// The bytes are no table's text: the first field that is cut short or breaks its rule begins at this place,
+    /// or, where all fields are right, more bytes follow from there.
+    Bad {
+        place: u64,
+    },
+    /// Memory was wanted and not had.
+    OutOfMemory,
+}
+
 impl From<AllocError> for ReadError {
     ghost from_gives = { λ _ e. e ≡ Memory };
 

@@ -7,5 +7,7 @@ mod faults;
 mod fields;
 mod tables;
 
+pub use decoding::decode;
 pub use encoding::encode;
+pub use faults::DecodeError;
 pub use tables::Table;
