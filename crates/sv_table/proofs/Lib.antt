@@ -5,3 +5,7 @@ pub mod Runs
 pub mod Stops
 pub mod Takes
 pub mod Whole
+pub mod Keys
+pub mod Sorting
+pub mod Firsts
+pub mod Merged

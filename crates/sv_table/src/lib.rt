@@ -5,9 +5,11 @@ mod decoding;
 mod encoding;
 mod faults;
 mod fields;
+mod merging;
 mod tables;
 
 pub use decoding::decode;
 pub use encoding::encode;
 pub use faults::DecodeError;
+pub use merging::merge;
 pub use tables::Table;
