@@ -9,3 +9,4 @@ pub mod Keys
 pub mod Sorting
 pub mod Firsts
 pub mod Merged
+pub mod Unique
