@@ -85,7 +85,7 @@ row_again bottom last row rest fits =
     let regrouped : row_text row ++ rest ≡ (length key ∷ []) ++ (key ++ more) = ap (λ (z : List ℕ). length key ∷ z) (append_assoc key (op_text row.op) rest) in
     ap (row_at bottom last) regrouped
     ∙ bind_path (key_at last ((length key ∷ []) ++ (key ++ more))) _ (key, more) _ (key_again last key more fits.stored.least fits.stored.greatest fits.above)
-      (bind_path (op_at bottom more) _ (row.op, rest) _ (op_again bottom row.op rest fits.stored.op fits.bottoms) refl)
+    (bind_path (op_at bottom more) _ (row.op, rest) _ (op_again bottom row.op rest fits.stored.op fits.bottoms) refl)
 
 rows_again : (bottom : Bool) (last : List ℕ) (rows : List Row) (rest : List ℕ) → AscendsFrom last rows → AllByRecursion IsStored rows → Bottoms bottom rows → rows_at bottom (length rows) last (flat_map row_text rows ++ rest) ≡ Ok (rows, rest)
 unfolding rows_at
@@ -95,7 +95,7 @@ rows_again bottom last (row ∷ rows) rest up stored fits =
     let regrouped : flat_map row_text (row ∷ rows) ++ rest ≡ row_text row ++ more = ap (λ (z : List ℕ). z ++ rest) (flat_map-cons row_text row rows) ∙ append_assoc (row_text row) (flat_map row_text rows) rest in
     ap (rows_at bottom (suc (length rows)) last) regrouped
     ∙ bind_path (row_at bottom last (row_text row ++ more)) _ (row, more) _ (row_again bottom last row more (record { above = up.0; stored = stored.0; bottoms = fits.0 }))
-      (bind_path (rows_at bottom (length rows) row.key more) _ (rows, rest) _ (rows_again bottom row.key rows rest up.1 stored.1 fits.1) refl)
+    (bind_path (rows_at bottom (length rows) row.key more) _ (rows, rest) _ (rows_again bottom row.key rows rest up.1 stored.1 fits.1) refl)
 
 -- a key is above nothing
 above_none : (key : List ℕ) → 1 ≤ length key → is_below [] key ≡ true
@@ -115,5 +115,5 @@ table_again from to bottom rows fits =
     let read : rows_at bottom n [] text ≡ Ok (rows, []) = ap (rows_at bottom n []) (sym (append-nil text)) ∙ rows_again bottom [] rows [] (ascends_from rows w.ascends fits.stored) fits.stored w.bottoms in
     let counted : is_count from to bottom n ≡ true = both_true (le-leb _ _ w.at_most) w.at_least in
     bind_path (header_at (header_text from to bottom n ++ text)) _ (record { from = from; to = to; bottom = bottom; count = n }, text) _
-      (header_again from to bottom n text (record { range = lt-ltb _ _ w.range; in_range = fits.in_range; counted = counted; few = w.counted }))
-      (bind_path (rows_at bottom n [] text) _ (rows, []) _ read refl)
+    (header_again from to bottom n text (record { range = lt-ltb _ _ w.range; in_range = fits.in_range; counted = counted; few = w.counted }))
+    (bind_path (rows_at bottom n [] text) _ (rows, []) _ read refl)

@@ -29,7 +29,7 @@ firsts_up : (bottom : Bool) (last : Row) (rows : List Row) → RisesFrom last.ke
 firsts_up bottom last [] up = tt
 firsts_up bottom last (row ∷ rows) up =
     up_step bottom last row rows (same_key last.key row.key) refl up.0
-      (λ e. firsts_up bottom last rows (subst (λ (k : List ℕ). RisesFrom k rows) (sym e) up.1)) (firsts_up bottom row rows up.1)
+    (λ e. firsts_up bottom last rows (subst (λ (k : List ℕ). RisesFrom k rows) (sym e) up.1)) (firsts_up bottom row rows up.1)
 
 all_up_step : (row : Row) (rows : List Row) (drops : Bool) → AscendsFrom row.key rows → Ascends (option_to_list (cond drops None (Some row)) ++ rows)
 all_up_step row rows true up = ascends_rest row.key rows up
@@ -82,7 +82,7 @@ firsts_found bottom last [] up key = at (same_key key last.key)
     at false = refl
 firsts_found bottom last (row ∷ rows) up key =
     found_step bottom key last row rows (same_key last.key row.key) refl (firsts_up bottom last (row ∷ rows) up)
-      (λ e. firsts_found bottom last rows (subst (λ (k : List ℕ). RisesFrom k rows) (sym e) up.1) key) (firsts_found bottom row rows up.1 key)
+    (λ e. firsts_found bottom last rows (subst (λ (k : List ℕ). RisesFrom k rows) (sym e) up.1) key) (firsts_found bottom row rows up.1 key)
 
 pub all_found : (bottom : Bool) (rows : List Row) → Rises rows → (key : List ℕ) → row_at key (firsts bottom None rows) ≡ kept bottom (row_at key rows)
 all_found bottom [] up key = refl

@@ -135,11 +135,11 @@ pub searched_none : (rows : List Row) (key : List ℕ) (at : ℕ) → Ascends ro
 searched_none rows key at up parted =
     let sides = parted (searchable_from_sorted nat_list_cmp_total (λ (row : Row). row.key) rows key (sorted_rows rows up)) in
     absent rows key (λ j d lt e.
-        let level : slice_cmp nat_cmp (get_or rows j d).key key ≡ Equal = eq_is _ (same_yes (get_or rows j d).key key (sym e)) in
-        elim (cases_lt j at) [
-          | inl low ↦ not_less (sym (sides.0 j d (omega arith) low) ∙ level)
-          | inr high ↦ not_greater (sym (sides.1 j d high lt) ∙ level)
-        ])
+    let level : slice_cmp nat_cmp (get_or rows j d).key key ≡ Equal = eq_is _ (same_yes (get_or rows j d).key key (sym e)) in
+    elim (cases_lt j at) [
+      | inl low ↦ not_less (sym (sides.0 j d (omega arith) low) ∙ level)
+      | inr high ↦ not_greater (sym (sides.1 j d high lt) ∙ level)
+    ])
 
 pub find_ok : (rows own : List Row) (key : List ℕ) (at : ℕ) (d : Row) → rows ≡ own → at < length rows → IsBinarySearchResult (λ row. slice_cmp nat_cmp row.key key) rows (Ok at) → Ascends own
     → Some (get_or rows at d).op ≡ option_map (λ row. row.op) (row_at key own)

@@ -126,12 +126,12 @@ whole_newest journal family from to bottom (table ∷ tables) above plain flats 
     let new = range_of journal family table.to to in
     let others = above_newest journal family table.to to tables above flats.1 joined.1 key in
     ap (kept bottom) (ap (newest_row key) (flat_map-cons (λ (t : Table). t.rows) table tables)
-      ∙ newest_append key table.rows (all_rows tables)
-      ∙ (λ i. option_or (others i) (table_newest journal family table flats.0.1 key i)))
+    ∙ newest_append key table.rows (all_rows tables)
+    ∙ (λ i. option_or (others i) (table_newest journal family table flats.0.1 key i)))
     ∙ kept_or bottom table.bottom (newest_row key new) (newest_row key old) (λ e. (plain e).0)
     ∙ ap (kept bottom) (sym (newest_append key old new)
-      ∙ ap (newest_row key) (ranges_join journal family table.from table.to to flats.0.0 (joined_up journal family table.to to tables flats.1 joined.1))
-      ∙ ap (λ (n : ℕ). newest_row key (range_of journal family n to)) joined.0)
+    ∙ ap (newest_row key) (ranges_join journal family table.from table.to to flats.0.0 (joined_up journal family table.to to tables flats.1 joined.1))
+    ∙ ap (λ (n : ℕ). newest_row key (range_of journal family n to)) joined.0)
 
 pub merged_rows : (bottom : Bool) (all sorted : List Row) → InOrder (reverse all) sorted → IsFlatOf all bottom (firsts bottom None sorted)
 merged_rows bottom all sorted order = record {

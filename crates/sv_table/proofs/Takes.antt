@@ -274,8 +274,8 @@ rows_takes bottom (suc n) last bytes x fits e =
     let others = rows_takes bottom n row.0.0.key row.0.1 rows.0 first.rest_fits rows.1 in
     let made : List Row × List ℕ = (row.0.0 ∷ rows.0.0, rows.0.1) in
     let whole : bytes ≡ flat_map row_text (row.0.0 ∷ rows.0.0) ++ rows.0.1 =
-        first.parts ∙ ap (λ (r : List ℕ). row_text row.0.0 ++ r) others.parts ∙ sym (append_assoc (row_text row.0.0) (flat_map row_text rows.0.0) rows.0.1)
-        ∙ ap (λ (r : List ℕ). r ++ rows.0.1) (sym (flat_map-cons row_text row.0.0 rows.0.0)) in
+    first.parts ∙ ap (λ (r : List ℕ). row_text row.0.0 ++ r) others.parts ∙ sym (append_assoc (row_text row.0.0) (flat_map row_text rows.0.0) rows.0.1)
+    ∙ ap (λ (r : List ℕ). r ++ rows.0.1) (sym (flat_map-cons row_text row.0.0 rows.0.0)) in
     subst (TakesRows bottom (suc n) last bytes) (ok_is made x rows.2) (record {
       parts = whole;
       counted = ap suc others.counted;

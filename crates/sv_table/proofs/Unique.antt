@@ -60,5 +60,5 @@ pub texts_are : (from to other_from other_to : ℕ) (bottom other_bottom : Bool)
     → table_text from to bottom rows ≡ table_text other_from other_to other_bottom other_rows → (from ≡ other_from) × (to ≡ other_to) × (bottom ≡ other_bottom) × (rows ≡ other_rows)
 texts_are from to other_from other_to bottom other_bottom rows other_rows a b e =
     let same = ok_is (record { from = from; to = to; bottom = bottom; rows = rows }) (record { from = other_from; to = other_to; bottom = other_bottom; rows = other_rows })
-        (sym (table_again from to bottom rows a) ∙ ap table_at e ∙ table_again other_from other_to other_bottom other_rows b) in
+    (sym (table_again from to bottom rows a) ∙ ap table_at e ∙ table_again other_from other_to other_bottom other_rows b) in
     (ap (λ (x : Contents). x.from) same, ap (λ (x : Contents). x.to) same, ap (λ (x : Contents). x.bottom) same, ap (λ (x : Contents). x.rows) same)

@@ -16,9 +16,7 @@ pub enum ReadError {
 pub enum DecodeError {
     /// The bytes are no table's text: the first field that is cut short or breaks its rule begins at this place,
     /// or, where all fields are right, more bytes follow from there.
-    Bad {
-        place: u64,
-    },
+    Bad { place: u64 },
     /// Memory was wanted and not had.
     OutOfMemory,
 }

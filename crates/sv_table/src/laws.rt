@@ -9,11 +9,9 @@ ghost use Rattle.sv_model.specs.TableText.{HasText, table_text};
 pub fn one_text()
     ensures { (from to other_from other_to : ℕ) (bottom other_bottom : Bool) (rows other_rows : List Row) → HasText from to bottom rows → HasText other_from other_to other_bottom other_rows
         → table_text from to bottom rows ≡ table_text other_from other_to other_bottom other_rows → (from ≡ other_from) × (to ≡ other_to) × (bottom ≡ other_bottom) × (rows ≡ other_rows) }
-{
-}
+{}
 
 /// A range of writes has one flat: the keys ascend, and what stands under each key is told.
 pub fn one_flat()
     ensures { (writes : List Row) (bottom : Bool) (rows others : List Row) → IsFlatOf writes bottom rows → IsFlatOf writes bottom others → rows ≡ others }
-{
-}
+{}

@@ -25,7 +25,7 @@ returns-clause-flat c = λ journal family flats plain.
     let is : c.from_vec.result ≡ firsts c.args.bottom None sorted = c.from_vec.ensures ∙ c.in_ok-rows-2.ensures ∙ ap (λ refs. firsts c.args.bottom None (rows_at_refs refs)) c.deref.ensures.value in
     let j = c.requires.joined in
     merged_flat journal family _ _ c.args.bottom c.args.tables.now c.from_vec.result c.requires.above plain flats (ends_are j.0 j.1 c.args.tables.now _ _ c.requires.some j.2)
-      (subst (λ (x : List Row). IsFlatOf all c.args.bottom x) (sym is) (merged_rows c.args.bottom all sorted order))
+    (subst (λ (x : List Row). IsFlatOf all c.args.bottom x) (sym is) (merged_rows c.args.bottom all sorted order))
 
 pub returns-clause-well_formed : goal.returns-clause-well_formed
 returns-clause-well_formed c = λ are few.
