@@ -1,6 +1,5 @@
 -- What is spelled so is read again.
-use Rattle.std.proofs.Common.{◌≡◌, ℕ, zero, suc, ◌-◌, ◌+◌, ◌^◌, ◌≤◌, ◌<◌, Bool, true, false, cond, eqb, not, ◌&&◌, ◌||◌, nat_le, nat_lt, List, [], ◌∷◌, ◌++◌, length, Result, Ok, Err, refl, sym, ap, subst, ◌∙◌, append_assoc, arith}
-use Rattle.std.specs.Prelude.{IsTrue}
+use Rattle.std.proofs.Common.{◌≡◌, ℕ, suc, ◌≤◌, Bool, true, false, cond, eqb, not, ◌&&◌, ◌||◌, nat_le, nat_lt, List, [], ◌∷◌, ◌++◌, length, Result, Ok, refl, sym, ap, ◌∙◌, append_assoc, arith}
 use Rattle.std.specs.Str.{bytes_eq}
 use Rattle.std.specs.Int.{w16, w32, w64, from_le_bytes, to_le_bytes}
 use Rattle.std.specs.Cmp.Derive.{both_true}
@@ -13,8 +12,8 @@ use Rattle.sv_model.specs.declared.writes.Row.{Row}
 use Rattle.sv_model.specs.declared.writes.Op.{Op}
 use Rattle.sv_model.specs.declared.writes.Op.TheVariants.{Put, Delete}
 use Rattle.sv_model.specs.Flat.{is_below, AscendsFrom, Ascends, is_delete}
-use Rattle.sv_model.specs.TableText.{magic, flag, header_text, op_text, row_text, table_text, byte, Field, Magic, From, To, Bottom, Count, KeyLength, KeyBytes, OpMark, ValueLength, ValueBytes, IsField, IsStoredOp, IsStored, IsWellFormed, HasText}
-use Rattle.sv_table.specs.Reading.{◌>>=◌, Header, Contents, is_count, header_at, key_at, value_at, op_at, row_at, rows_at, ended, table_at}
+use Rattle.sv_model.specs.TableText.{magic, header_text, op_text, row_text, table_text, byte, Field, Magic, From, To, Bottom, Count, KeyLength, KeyBytes, OpMark, ValueLength, ValueBytes, IsField, IsStoredOp, IsStored, HasText}
+use Rattle.sv_table.specs.Reading.{◌>>=◌, is_count, header_at, key_at, value_at, op_at, row_at, rows_at, table_at}
 use Rattle.sv_table.proofs.OneField.{Reads, again, reads_number, reads_any_number, reads_bytes, reads_any_bytes, reads_byte}
 use Rattle.sv_table.proofs.Takes.{HeaderFits, RowFits, Bottoms}
 

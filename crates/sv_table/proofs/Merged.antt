@@ -1,8 +1,7 @@
 -- What a merge of flats is.
-use Rattle.std.proofs.Common.{◌≡◌, ℕ, zero, suc, ◌+◌, ◌-◌, ◌^◌, ◌≤◌, ◌<◌, Bool, true, false, cond, not, ◌&&◌, ◌||◌, nat_le, List, [], ◌∷◌, ◌++◌, length, map, reverse, take, drop, get_or, Option, Some, None, refl, sym, ap, subst, ◌∙◌, arith}
-use Rattle.std.specs.Prelude.{IsTrue}
+use Rattle.std.proofs.Common.{◌≡◌, ℕ, zero, suc, ◌-◌, ◌^◌, ◌≤◌, ◌<◌, Bool, true, false, cond, ◌||◌, nat_le, List, [], ◌∷◌, ◌++◌, length, map, reverse, take, drop, get_or, Option, Some, None, refl, sym, ap, subst, ◌∙◌, arith}
 use Rattle.std.specs.Option.{option_or}
-use Rattle.std.specs.List.{find, flat_map, AllByRecursion}
+use Rattle.std.specs.List.{find}
 use Rattle.std.proofs.lemmas.Bool.{le-leb, leb-true}
 use Rattle.std.proofs.lemmas.List.{reverse-append, length-reverse, map-append, length-append}
 use Rattle.std.proofs.lemmas.List.Concat.{flat_map-cons}
@@ -13,7 +12,7 @@ use Rattle.sv_model.specs.Journal.{same_key, of_family, row_of, newest_row}
 use Rattle.sv_model.specs.Flat.{range_of, AscendsFrom, Ascends, is_delete, kept, row_at, IsFlatOf, IsFlat}
 use Rattle.sv_model.specs.TableText.{IsWellFormed}
 use Rattle.sv_table.specs.declared.tables.Table.{Table}
-use Rattle.sv_table.specs.Merging.{Joined, NoneBottom, AreWellFormed, all_rows, AreFlats, Rises, InOrder, firsts}
+use Rattle.sv_table.specs.Merging.{Joined, NoneBottom, AreWellFormed, all_rows, AreFlats, InOrder, firsts}
 use Rattle.sv_table.proofs.Keys.{same_eq, absent_below, ascends_rest}
 use Rattle.sv_table.proofs.Firsts.{all_up, all_found, at_most, at_least, none_deleted}
 

@@ -1,10 +1,10 @@
 -- The longest run of fields, from one field on.
-use Rattle.std.proofs.Common.{◌≡◌, ℕ, ◌+◌, ◌≤◌, List, [], ◌∷◌, ◌++◌, length, Result, Ok, Err, refl, sym, ap, subst, ◌∙◌, append_assoc, arith, inl, inr}
+use Rattle.std.proofs.Common.{◌≡◌, ℕ, ◌≤◌, List, [], ◌∷◌, ◌++◌, length, Result, Ok, Err, refl, sym, ap, subst, ◌∙◌, append_assoc, arith, inl, inr}
 use Rattle.std.specs.List.{concat}
 use Rattle.std.proofs.lemmas.List.{length-append}
 use Rattle.sv_model.specs.TableText.{Field, after, IsField, AreFields}
 use Rattle.sv_table.specs.Reading.{◌>>=◌}
-use Rattle.sv_table.proofs.OneField.{same_front, Stuck, Found, Reads}
+use Rattle.sv_table.proofs.OneField.{same_front, Stuck, Reads}
 
 -- The longest run of fields from this one on leaves that many bytes.
 pub record Stops (field : Field) (bytes : List ℕ) (left : ℕ) : Type 0 where

@@ -1,5 +1,5 @@
 -- Where a table's text breaks off: each reader goes over a run of fields.
-use Rattle.std.proofs.Common.{◌≡◌, ℕ, zero, suc, ◌-◌, ◌+◌, ◌≤◌, ◌<◌, Bool, true, false, cond, eqb, List, [], ◌∷◌, ◌++◌, length, take, drop, Result, Ok, Err, refl, sym, ap, subst, ◌∙◌, arith}
+use Rattle.std.proofs.Common.{◌≡◌, ℕ, zero, suc, ◌-◌, ◌≤◌, Bool, true, false, cond, eqb, List, [], ◌∷◌, ◌++◌, length, take, drop, Result, Ok, Err, refl, sym, ap, subst, ◌∙◌, arith}
 use Rattle.std.specs.Str.{bytes_eq}
 use Rattle.std.specs.Int.{w16, w32, w64, from_le_bytes}
 use Rattle.std.specs.List.{concat}
@@ -7,10 +7,10 @@ use Rattle.std.proofs.lemmas.List.{take_at, take-append-drop, length-append, len
 use Rattle.sv_model.specs.declared.writes.Row.{Row}
 use Rattle.sv_model.specs.declared.writes.Op.{Op}
 use Rattle.sv_model.specs.declared.writes.Op.TheVariants.{Put, Delete}
-use Rattle.sv_model.specs.TableText.{magic, byte, Field, Magic, From, To, Bottom, Count, KeyLength, KeyBytes, OpMark, ValueLength, ValueBytes, IsBadPlace}
+use Rattle.sv_model.specs.TableText.{magic, byte, Magic, From, To, Bottom, Count, KeyLength, KeyBytes, OpMark, ValueLength, ValueBytes, IsBadPlace}
 use Rattle.sv_table.specs.Reading.{◌>>=◌, Header, Contents, header_at, key_at, value_at, op_at, row_at, rows_at, ended, table_at}
 use Rattle.sv_table.proofs.OneField.{Stuck, reads_number, reads_any_number, reads_bytes, reads_any_bytes, reads_byte}
-use Rattle.sv_table.proofs.Runs.{Stops, Walks, stuck_stops, walks_field, walks_then, walks_done, ok_is}
+use Rattle.sv_table.proofs.Runs.{Stops, Walks, stuck_stops, walks_field, walks_then, walks_done}
 
 header_walks : (bytes : List ℕ) → Walks Magic (λ h. KeyLength h.bottom h.count []) bytes (header_at bytes)
 unfolding header_at

@@ -1,10 +1,10 @@
 -- What is read is spelled so.
-use Rattle.std.proofs.Common.{◌≡◌, ℕ, zero, suc, ◌-◌, ◌+◌, ◌^◌, ◌≤◌, ◌<◌, Bool, true, false, cond, eqb, not, ◌&&◌, ◌||◌, nat_le, nat_lt, List, [], ◌∷◌, ◌++◌, length, get_or, Result, Ok, Err, ◌⊎◌, refl, sym, ap, subst, ◌∙◌, append_assoc, arith, inl, inr}
+use Rattle.std.proofs.Common.{◌≡◌, ℕ, zero, suc, ◌^◌, ◌<◌, Bool, true, false, cond, eqb, not, ◌&&◌, ◌||◌, nat_le, nat_lt, List, [], ◌∷◌, ◌++◌, length, Result, Ok, Err, refl, sym, ap, subst, ◌∙◌, append_assoc, arith, inl, inr}
 use Rattle.std.specs.Prelude.{IsTrue}
 use Rattle.std.specs.Str.{bytes_eq}
 use Rattle.std.specs.Int.{w16, w32, w64, from_le_bytes, to_le_bytes}
 use Rattle.std.specs.List.{flat_map, AllByRecursion}
-use Rattle.std.proofs.lemmas.List.{append-nil, length-append, nil_from_length}
+use Rattle.std.proofs.lemmas.List.{append-nil, nil_from_length}
 use Rattle.std.proofs.lemmas.List.Concat.{flat_map-cons}
 use Rattle.std.proofs.lemmas.Bool.{eqb-true, leb-true, ltb-true}
 use Rattle.std.proofs.lemmas.Nat.{le_bytes_2, le_bytes_4, le_bytes_8}
@@ -13,9 +13,9 @@ use Rattle.sv_model.specs.declared.writes.Row.{Row}
 use Rattle.sv_model.specs.declared.writes.Op.{Op}
 use Rattle.sv_model.specs.declared.writes.Op.TheVariants.{Put, Delete}
 use Rattle.sv_model.specs.Flat.{is_below, AscendsFrom, Ascends, is_delete}
-use Rattle.sv_model.specs.TableText.{magic, flag, header_text, op_text, row_text, table_text, byte, width, Field, Magic, From, To, Bottom, Count, KeyLength, KeyBytes, OpMark, ValueLength, ValueBytes, IsField, AreBytes, IsStoredOp, IsStored, IsWellFormed, HasText}
+use Rattle.sv_model.specs.TableText.{magic, flag, header_text, op_text, row_text, table_text, byte, width, Field, Magic, From, To, Bottom, Count, KeyLength, KeyBytes, OpMark, ValueLength, ValueBytes, AreBytes, IsStoredOp, IsStored, HasText}
 use Rattle.sv_table.specs.Reading.{◌>>=◌, Header, Contents, is_count, checked, number_at, byte_at, header_at, key_at, value_at, op_at, row_at, rows_at, ended, table_at}
-use Rattle.sv_table.proofs.OneField.{IsBytes, Found, Reads, Then, takes_then, bytes_text, bytes_rest, reads_number, reads_any_number, reads_bytes, reads_any_bytes, reads_byte}
+use Rattle.sv_table.proofs.OneField.{IsBytes, Reads, Then, takes_then, bytes_text, bytes_rest, reads_number, reads_any_number, reads_bytes, reads_any_bytes, reads_byte}
 use Rattle.sv_table.proofs.Runs.{ok_is}
 
 -- ---- texts of fields

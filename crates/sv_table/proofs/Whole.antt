@@ -1,5 +1,5 @@
 -- What decoding owes, from what reading gives.
-use Rattle.std.proofs.Common.{◌≡◌, ℕ, Bool, List, Result, Ok, Err, refl, sym, ap, ◌∙◌}
+use Rattle.std.proofs.Common.{◌≡◌, ℕ, Bool, List, Ok, Err, sym, ap, ◌∙◌}
 use Rattle.sv_model.specs.declared.writes.Row.{Row}
 use Rattle.sv_model.specs.TableText.{table_text, HasText}
 use Rattle.sv_table.specs.declared.tables.Table.{Table}

@@ -1,4 +1,4 @@
-use Rattle.std.proofs.Common.{append_assoc, arith}
+use Rattle.std.proofs.Common.{append_assoc}
 use Rattle.sv_table.proofs.encoding.put_header.Goals as goal
 
 pub returns : goal.returns

@@ -1,4 +1,4 @@
-use Rattle.std.proofs.Common.{◌≡◌, ◌∙◌, ap, map, reverse, take}
+use Rattle.std.proofs.Common.{◌≡◌, ◌∙◌, ap, reverse}
 use Rattle.std.proofs.lemmas.List.{take_all}
 use Rattle.sv_table.specs.Merging.{all_rows}
 use Rattle.sv_table.proofs.Sorting.{rows_at_refs, map_reverse}

@@ -1,4 +1,4 @@
-use Rattle.std.proofs.Common.{◌≡◌, List, map, reverse, None, sym, ap, subst, ◌∙◌}
+use Rattle.std.proofs.Common.{◌≡◌, List, reverse, None, sym, ap, subst, ◌∙◌}
 use Rattle.sv_model.specs.declared.writes.Row.{Row}
 use Rattle.sv_model.specs.Flat.{IsFlatOf}
 use Rattle.sv_table.specs.Merging.{all_rows, InOrder, firsts}
