@@ -2,6 +2,7 @@ pub mod After
 pub mod Books
 pub mod Counts
 pub mod Faults
+pub mod Flat
 pub mod Journal
 pub mod Lists
 pub mod Named
@@ -11,3 +12,4 @@ pub mod Reads
 pub mod Refusals
 pub mod Registers
 pub mod Summaries
+pub mod TableText
