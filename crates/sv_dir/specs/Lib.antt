@@ -1,1 +1,4 @@
+pub mod Fails
+pub mod Files
+pub mod MemDir
 pub mod TableNames
