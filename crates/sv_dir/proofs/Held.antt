@@ -3,7 +3,8 @@ use Rattle.std.proofs.Common.{◌≡◌, ℕ, Bool, true, false, cond, ◌||◌,
 use Rattle.std.specs.Prelude.{String, Vec, string_bytes, option_map, is_some, fold}
 use Rattle.std.specs.declared.alloc.Global.{Global}
 use denote.Ref.{Bor}
-use Rattle.std.specs.declared.cmp.Ordering.TheVariants.{Less}
+use Rattle.std.specs.declared.cmp.Ordering.TheVariants.{Less, Equal, Greater}
+use Rattle.std.specs.declared.cmp.Ordering.{Ordering}
 use Rattle.std.specs.Ordering.{nat_cmp, is_eq, eq_by_cmp}
 use Rattle.std.specs.Cmp.{IsTotalOrder, eq_by_cmp_equiv}
 use Rattle.std.specs.Cmp.Lexicographic.{slice_cmp, nat_list_cmp_total}
@@ -47,6 +48,16 @@ same_test name q = sym (is_eq-slice_cmp name q) ∙ (eq_by_cmp_equiv nat_list_cm
 
 same_files : (f g : Files) → ((q : List ℕ) → finite.get f q ≡ finite.get g q) → f ≡ g
 same_files f g same = finite.same_map nat_list_cmp_total (finite.slice_cmp-IsAntisymmetric finite.nat_cmp-IsAntisymmetric) f g same
+
+-- to write what a file holds changes nothing
+kept_at : (name : List ℕ) (files : Files) (q : List ℕ) (o : Ordering) → slice_cmp nat_cmp q name ≡ o → finite.get files q ≡ cond (is_eq o) (finite.get files name) (finite.get files q)
+kept_at name files q Less e = refl
+kept_at name files q Equal e = sym (finite.get_tied nat_list_cmp_total files q name e)
+kept_at name files q Greater e = refl
+
+pub with_file-same : (name : List ℕ) (files : Files) → files ≡ with_file name (finite.get files name) files
+with_file-same name files =
+    same_files files (with_file name (finite.get files name) files) (λ q. kept_at name files q (slice_cmp nat_cmp q name) refl ∙ sym (get-with_file name (finite.get files name) files q))
 
 pub held_updated : (name : List ℕ) (m n : BTreeMap (String Global) (Vec ℕ Global)) (w : Option (Vec ℕ Global)) → UpdatesBy string_cmp (λ k. slice_cmp nat_cmp name (string_bytes k)) m n w → held n ≡ with_file name (option_map (λ v. v.items) w) (held m)
 held_updated name m n w u =

@@ -3,10 +3,12 @@
 
 mod dir;
 mod fails;
+mod folder;
 mod memory;
 mod names;
 
 pub use dir::{Dir, DirError, Found, Removal};
 pub use fails::{Fail, How};
+pub use folder::RealDir;
 pub use memory::MemDir;
 pub use names::{file_name, parse_name};

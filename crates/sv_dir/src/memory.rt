@@ -1,5 +1,5 @@
 // A directory in memory that fails where it is told to.
-ghost use Rattle.std.specs.Prelude.{◌≡◌, ℕ, List, map, Option, Some, None, OnOk, OnErr, IfOk, IfErr, IfSome, IsErrOf, string_bytes};
+ghost use Rattle.std.specs.Prelude.{◌≡◌, ◌≤◌, ℕ, List, map, Option, Some, None, OnOk, OnErr, IfOk, IfErr, IfSome, IsErrOf, string_bytes};
 ghost use Rattle.std.specs.List.Sorted.{IsStrictlySortedBy};
 ghost use Rattle.std.specs.Ordering.{nat_cmp};
 ghost use Rattle.std.specs.Cmp.Lexicographic.{slice_cmp};
@@ -83,6 +83,7 @@ impl MemDir {
     // Counts a fault.
     fn fail(&mut self) -> DirError
         ensures error { result ≡ DirError.Failed }
+        ensures later { faults_of self.old ≤ faults_of self.new }
         ensures faults { faults_of self.new ≡ one_more (faults_of self.old) }
         ensures files { mem_files self.new ≡ mem_files self.old }
         ensures calls { calls_of self.new ≡ calls_of self.old }
@@ -131,6 +132,89 @@ impl MemDir {
         match self.files.get(name.as_str()) {
             Some(bytes) => Ok(Found::Bytes(bytes.as_slice().to_vec(self.alloc)?)),
             None => Ok(Found::Absent),
+        }
+    }
+}
+
+impl Dir for MemDir {
+    ghost use Rattle.std.specs.Prelude.{Some};
+    ghost use Rattle.sv_dir.specs.MemDir.{mem_files, faults_of, next_fail, CountsCall};
+
+    ghost files = { λ dir. Some (mem_files dir) };
+
+    ghost faults = { faults_of };
+
+    fn list(&mut self) -> Result<Vec<String>, DirError>
+        ensures names { IfOk result (λ names. ListsEach (map string_bytes names.items) (mem_files self.old)) }
+        ensures same { Some (mem_files self.new) ≡ Some (mem_files self.old) }
+        ensures cause { HasCauseOf DirError.Failed (faults_of self.old) (faults_of self.new) result }
+
+        ensures order { IfOk result (λ names. IsStrictlySortedBy (slice_cmp nat_cmp) (map string_bytes names.items)) }
+        ensures fails { FailsWhere (next_fail self.old) result }
+        ensures counted { CountsCall self.old self.new }
+    {
+        if self.next_call().is_some() {
+            return Err(self.fail());
+        }
+        Ok(names_of(self.alloc, &self.files)?)
+    }
+
+    fn put(&mut self, number: FileNumber, bytes: &[u8]) -> Result<(), DirError>
+        ensures stored { OnOk result (PutsFile number bytes.now (Some (mem_files self.old)) (Some (mem_files self.new))) }
+        ensures failed { IsErrOf result DirError.Failed → LeavesAny number (Some (mem_files self.old)) (Some (mem_files self.new)) }
+        ensures memory { IsErrOf result DirError.OutOfMemory → Some (mem_files self.new) ≡ Some (mem_files self.old) }
+        ensures cause { HasCauseOf DirError.Failed (faults_of self.old) (faults_of self.new) result }
+
+        ensures leaves { UnlessMemory result (mem_files self.new ≡ put_as (next_fail self.old) number bytes.now (mem_files self.old)) }
+        ensures fails { FailsWhere (next_fail self.old) result }
+        ensures counted { CountsCall self.old self.new }
+    {
+        match self.next_call() {
+            None => Ok(self.store(number, bytes)?),
+            Some(How::Before) => Err(self.fail()),
+            Some(How::Half) => {
+                self.store(number, &bytes[..bytes.len() / 2])?;
+                Err(self.fail())
+            }
+            Some(How::After) => {
+                self.store(number, bytes)?;
+                Err(self.fail())
+            }
+        }
+    }
+
+    fn read(&mut self, number: FileNumber) -> Result<Found, DirError>
+        ensures found { IfOk result (λ found. Finds (file_of number (mem_files self.old)) found) }
+        ensures same { Some (mem_files self.new) ≡ Some (mem_files self.old) }
+        ensures cause { HasCauseOf DirError.Failed (faults_of self.old) (faults_of self.new) result }
+
+        ensures fails { FailsWhere (next_fail self.old) result }
+        ensures counted { CountsCall self.old self.new }
+    {
+        if self.next_call().is_some() {
+            return Err(self.fail());
+        }
+        Ok(self.find(number)?)
+    }
+
+    fn remove(&mut self, number: FileNumber) -> Result<Removal, DirError>
+        ensures answer { IfOk result (λ removal. removal ≡ removal_of (file_of number (mem_files self.old))) }
+        ensures removed { OnOk result (RemovesFile number (Some (mem_files self.old)) (Some (mem_files self.new))) }
+        ensures failed { IsErrOf result DirError.Failed → MayRemove number (Some (mem_files self.old)) (Some (mem_files self.new)) }
+        ensures memory { IsErrOf result DirError.OutOfMemory → Some (mem_files self.new) ≡ Some (mem_files self.old) }
+        ensures cause { HasCauseOf DirError.Failed (faults_of self.old) (faults_of self.new) result }
+
+        ensures leaves { UnlessMemory result (mem_files self.new ≡ remove_as (next_fail self.old) number (mem_files self.old)) }
+        ensures fails { FailsWhere (next_fail self.old) result }
+        ensures counted { CountsCall self.old self.new }
+    {
+        match self.next_call() {
+            None => Ok(self.take(number)),
+            Some(How::Before | How::Half) => Err(self.fail()),
+            Some(How::After) => {
+                let _removal = self.take(number);
+                Err(self.fail())
+            }
         }
     }
 }
