@@ -1,18 +1,18 @@
 -- The files that a map of names and bytes holds.
-use Rattle.std.proofs.Common.{◌≡◌, ℕ, Bool, true, false, cond, ◌||◌, List, [], ◌∷◌, ◌++◌, map, Option, Some, None, refl, sym, ◌∙◌, ap, subst, arith, rules}
-use Rattle.std.specs.Prelude.{String, Vec, string_bytes, option_map, is_some, fold}
+use Rattle.std.proofs.Common.{◌≡◌, ℕ, Bool, true, false, cond, ◌||◌, List, [], ◌∷◌, ◌++◌, map, Option, Some, None, refl, sym, ◌∙◌, ap, subst}
+use Rattle.std.specs.Prelude.{String, Vec, string_bytes, option_map, is_some}
 use Rattle.std.specs.declared.alloc.Global.{Global}
 use denote.Ref.{Bor}
 use Rattle.std.specs.declared.cmp.Ordering.TheVariants.{Less, Equal, Greater}
 use Rattle.std.specs.declared.cmp.Ordering.{Ordering}
 use Rattle.std.specs.Ordering.{nat_cmp, is_eq, eq_by_cmp}
-use Rattle.std.specs.Cmp.{IsTotalOrder, eq_by_cmp_equiv}
+use Rattle.std.specs.Cmp.{eq_by_cmp_equiv}
 use Rattle.std.specs.Cmp.Lexicographic.{slice_cmp, nat_list_cmp_total}
 use Rattle.std.specs.List.{list_any, AllByRecursion}
 use Rattle.std.specs.List.Sorted.{IsStrictlySortedBy}
 use Rattle.std.specs.String.{string_cmp}
 use Rattle.std.specs.Str.{bytes_eq}
-use Rattle.std.specs.Map.{lookup, update}
+use Rattle.std.specs.Map.{lookup}
 use Rattle.std.specs.BTreeMap.{BTreeMap, keys, is_at, get_by_text, UpdatesBy, IsOrdered}
 use Rattle.std.specs.FinMap as finite
 use Rattle.std.proofs.lemmas.Map.Text.{btree_map_updates_text, is_eq-slice_cmp}
@@ -62,12 +62,12 @@ with_file-same name files =
 pub held_updated : (name : List ℕ) (m n : BTreeMap (String Global) (Vec ℕ Global)) (w : Option (Vec ℕ Global)) → UpdatesBy string_cmp (λ k. slice_cmp nat_cmp name (string_bytes k)) m n w → held n ≡ with_file name (option_map (λ v. v.items) w) (held m)
 held_updated name m n w u =
     same_files (held n) (with_file name (option_map (λ v. v.items) w) (held m)) (λ q.
-      get-held n q
-      ∙ ap (option_map (λ v. v.items)) (btree_map_updates_text name m n w u q)
-      ∙ option_map-cond (bytes_eq name q) w (get_by_text m q)
-      ∙ ap (λ b. cond b (option_map (λ v. v.items) w) (option_map (λ v. v.items) (get_by_text m q))) (same_test name q)
-      ∙ ap (cond (eq_by_cmp (slice_cmp nat_cmp) q name) (option_map (λ v. v.items) w)) (sym (get-held m q))
-      ∙ sym (get-with_file name (option_map (λ v. v.items) w) (held m) q))
+    get-held n q
+    ∙ ap (option_map (λ v. v.items)) (btree_map_updates_text name m n w u q)
+    ∙ option_map-cond (bytes_eq name q) w (get_by_text m q)
+    ∙ ap (λ b. cond b (option_map (λ v. v.items) w) (option_map (λ v. v.items) (get_by_text m q))) (same_test name q)
+    ∙ ap (cond (eq_by_cmp (slice_cmp nat_cmp) q name) (option_map (λ v. v.items) w)) (sym (get-held m q))
+    ∙ sym (get-with_file name (option_map (λ v. v.items) w) (held m) q))
 
 -- the calls, which look by a key that is the name
 pub held_after : (key name : List ℕ) → key ≡ name → (m n : BTreeMap (String Global) (Vec ℕ Global)) (w : Option (Vec ℕ Global)) → UpdatesBy string_cmp (λ k. slice_cmp nat_cmp key (string_bytes k)) m n w → held n ≡ with_file name (option_map (λ v. v.items) w) (held m)
@@ -137,5 +137,5 @@ in_order m names e ordered = subst (IsStrictlySortedBy (slice_cmp nat_cmp)) (sym
 pub lists_each : (m : BTreeMap (String Global) (Vec ℕ Global)) (names : List (List ℕ)) → names ≡ map string_bytes (keys m) → IsOrdered string_cmp m → ListsEach names (held m)
 lists_each m names e ordered = record {
   has = λ q. ap (list_any (same_name q)) (e ∙ names_of_keys m.entries) ∙ has_entries q m.entries ∙ sym (ap is_some (finite.get-from_entries nat_list_cmp_total (map entry_of m.entries) q));
-  once = IsDistinct-from_sorted (slice_cmp nat_cmp) names (in_order m names e ordered)
+  once = IsDistinct-from_sorted (slice_cmp nat_cmp) names (in_order m names e ordered);
 }

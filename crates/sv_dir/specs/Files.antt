@@ -1,10 +1,9 @@
 -- What the calls of a directory do to its files.
-use Rattle.std.specs.Prelude.{◌≡◌, ◌⊎◌, ℕ, Bool, List, Option, Some, None, Result, Ok, Err, IsErrOf, IfOk, IfSome, option_map, is_some}
+use Rattle.std.specs.Prelude.{◌≡◌, ◌⊎◌, ℕ, Bool, List, Option, Some, None, option_map}
 use Rattle.std.specs.Ordering.{nat_cmp, is_eq}
 use Rattle.std.specs.Cmp.Lexicographic.{slice_cmp}
 use Rattle.std.specs.FinMap as map
 use Rattle.std.specs.List.{list_any, IsDistinct}
-use Rattle.sv_dir.specs.declared.dir.DirError.{DirError}
 use Rattle.sv_dir.specs.declared.dir.Found.{Found}
 use Rattle.sv_dir.specs.declared.dir.Found.TheVariants as found
 use Rattle.sv_dir.specs.declared.dir.Removal.{Removal}

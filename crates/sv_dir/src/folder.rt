@@ -5,11 +5,10 @@ ghost use Rattle.sv_model.specs.Faults.{Rose};
 use crate::dir::{Dir, DirError, Found, Removal};
 use crate::names::file_name;
 use std::alloc::{AllocError, Global};
-use std::fs;
 use std::fs::{File, Files};
-use std::io;
 use std::io::{ErrorKind, Read};
 use std::path::{Path, PathBuf};
+use std::{fs, io};
 use sv_model::FileNumber;
 
 /// A folder of the machine. It counts each error of the machine but "not found", which a read and a

@@ -1,4 +1,4 @@
-use Rattle.std.proofs.Common.{◌≡◌, Some, string_bytes, refl, sym, ap, ◌∙◌, arith, rules}
+use Rattle.std.proofs.Common.{Some, string_bytes, refl, sym, ap, ◌∙◌}
 use Rattle.std.specs.FinMap as finite
 use Rattle.sv_dir.proofs.Held.{held_after, one_put_more}
 use Rattle.sv_dir.proofs.memory.MemDir.new.Goals as goal

@@ -1,4 +1,4 @@
-use Rattle.std.proofs.Common.{◌≡◌, Some, string_bytes, sym, ap, ◌∙◌, arith, rules}
+use Rattle.std.proofs.Common.{◌≡◌, Some, string_bytes, ap, ◌∙◌, rules}
 use Rattle.sv_dir.specs.TableNames.{file_name as name_of}
 use Rattle.sv_dir.specs.Files.{with_file}
 use Rattle.sv_dir.specs.MemDir.{held}

@@ -1,4 +1,4 @@
-use Rattle.std.proofs.Common.{◌≡◌, List, Some, ap, ◌∙◌, arith, rules}
+use Rattle.std.proofs.Common.{◌≡◌, Some, ap, ◌∙◌, rules}
 use Rattle.sv_dir.specs.TableNames.{file_name}
 use Rattle.sv_dir.specs.Files.{file_of, with_file}
 use Rattle.sv_dir.specs.Fails.{half_of}
@@ -7,9 +7,10 @@ use Rattle.sv_dir.proofs.Held.{with_file-same}
 use Rattle.sv_dir.proofs.memory.MemDirDir.put.Goals as goal
 
 pub returns-in-Some-Before-clause-failed : goal.returns-in-Some-Before-clause-failed
-returns-in-Some-Before-clause-failed c = λ _.
-    (file_of c.args.number (mem_files c.args.self.now),
-     ap (λ files. Some files) (c.fail.ensures.files ∙ c.next_call.ensures.files ∙ with_file-same (file_name c.args.number) (mem_files c.args.self.now)))
+returns-in-Some-Before-clause-failed c = λ _. (
+  file_of c.args.number (mem_files c.args.self.now),
+  ap (λ files. Some files) (c.fail.ensures.files ∙ c.next_call.ensures.files ∙ with_file-same (file_name c.args.number) (mem_files c.args.self.now)),
+)
 
 pub returns-in_ok-store-in-Some-Half-clause-failed : goal.returns-in_ok-store-in-Some-Half-clause-failed
 returns-in_ok-store-in-Some-Half-clause-failed c = λ _.
