@@ -5,6 +5,7 @@ pub mod Journal
 pub mod Lists
 pub mod Named
 pub mod Names
+pub mod Ranges
 pub mod Reads
 pub mod Refusals
 pub mod Registers
