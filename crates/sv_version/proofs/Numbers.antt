@@ -1,5 +1,5 @@
 -- The numbers of files, as the loops over the files read them.
-use Rattle.std.proofs.Common.{◌≡◌, ℕ, ◌+◌, ◌<◌, ◌≤◌, List, [], ◌∷◌, ◌++◌, length, get_or, take, map, arith, refl, sym, ap, subst, ◌∙◌}
+use Rattle.std.proofs.Common.{◌≡◌, ℕ, ◌+◌, ◌<◌, List, [], ◌∷◌, ◌++◌, length, get_or, take, arith, sym, ap, ◌∙◌}
 use Rattle.std.proofs.lemmas.List.{get_or-map, take-map, length-map, map_push}
 use Rattle.sv_model.specs.declared.records.FileMeta.{FileMeta}
 use Rattle.sv_model.specs.Lists.{times, same}
@@ -12,7 +12,7 @@ length-numbers files = length-map files (λ (f : FileMeta). f.number)
 -- the number of the file that was read
 pub number_read : (files : List FileMeta) (i : ℕ) (f : FileMeta) (x : ℕ) → i < length files → f ≡ get_or files i f → x ≡ f.number → x ≡ get_or (numbers_of files) i 0
 number_read files i f x within read is =
-  is ∙ ap (λ (g : FileMeta). g.number) read ∙ sym (get_or-map (λ (g : FileMeta). g.number) files i f 0 within)
+    is ∙ ap (λ (g : FileMeta). g.number) read ∙ sym (get_or-map (λ (g : FileMeta). g.number) files i f 0 within)
 
 pub number_within : (files : List FileMeta) (i : ℕ) → i < length files → i < length (numbers_of files)
 number_within files i within = let n = length-numbers files in omega arith

@@ -71,7 +71,11 @@ impl Versions {
 
     /// A new Version with that file alone, which covers what the files of the Version cover. The Version that
     /// it follows stays.
-    pub fn replace_all(&mut self, version: VersionId, file: FileMeta) -> Result<VersionId, OutOfMemory>
+    pub fn replace_all(
+        &mut self,
+        version: VersionId,
+        file: FileMeta,
+    ) -> Result<VersionId, OutOfMemory>
         requires live { IsLiveVersion self.old version }
         requires begins { file.from ≡ 0 }
         requires covers { (v : Version) → entry self.old version ≡ Some v → FilesJoin 0 v.files file.to }
