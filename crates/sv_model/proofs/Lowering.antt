@@ -12,7 +12,7 @@ times-take_more m xs i x within read =
   ap (times m) e ∙ total-push (same m) (take i xs) x
 
 -- the items so far, this one and the others
-times_split : (m : ℕ) (xs : List ℕ) (i x : ℕ) → i < length xs → x ≡ get_or xs i 0 → times m xs ≡ times m (take i xs) + same m x + times m (drop (i + 1) xs)
+pub times_split : (m : ℕ) (xs : List ℕ) (i x : ℕ) → i < length xs → x ≡ get_or xs i 0 → times m xs ≡ times m (take i xs) + same m x + times m (drop (i + 1) xs)
 times_split m xs i x within read =
   let e = ap (times m) (sym (take-append-drop (i + 1) xs)) in
   let f = total-append (same m) (take (i + 1) xs) (drop (i + 1) xs) in

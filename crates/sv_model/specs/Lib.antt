@@ -8,6 +8,7 @@ pub mod Lists
 pub mod Named
 pub mod Names
 pub mod Places
+pub mod Ranges
 pub mod Reads
 pub mod Refusals
 pub mod Registers
