@@ -36,3 +36,9 @@ version_made old files new id made = record {
 
 pub version-length_kept : (old new : List Version) (answer : List ℕ) (id : ℕ) → versions.IsReleased old id new answer → IsLiveVersion old id → length new ≡ length old
 version-length_kept old new answer id released was = ap length (released.gone was.it was.at) ∙ length-change old id (versions.gone_version was.it)
+
+pub list_empty : (old new : List MemtableList) (id : ℕ) → lists.IsMade old [] new id → (l : MemtableList) → entry new id ≡ Some l → length l.members < 64
+list_empty old new id made l at =
+    let there = subst (λ (all : List MemtableList). entry all id ≡ Some (lists.live_list [])) (sym made.made) (entry-new old (lists.live_list []) id made.next) in
+    let e = ap (λ (x : MemtableList). length x.members) (same_Some (lists.live_list []) l (sym there ∙ at)) in
+    omega arith
