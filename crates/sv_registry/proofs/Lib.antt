@@ -1,3 +1,4 @@
 mod Making
 mod PartLemmas
 mod Packs
+mod TakingBack

@@ -24,6 +24,13 @@ pub record IsMade (old : List SuperVersion) (descriptor : Descriptor) (pack : �
   pub made : new ≡ old ++ record { descriptor = descriptor; place = place; live = true } ∷ []
   pub pack_is : pack ≡ (length old + 1) * 256 + place
 
+-- the SuperVersion made last is Live
+pub record IsJustMade (supers : List SuperVersion) : Type 0 where
+  pub before : List SuperVersion
+  pub it : SuperVersion
+  pub made : supers ≡ before ++ it ∷ []
+  pub live : it.live ≡ true
+
 -- the pack is that of a Live SuperVersion, whose serial and record these are
 pub record IsLivePack (supers : List SuperVersion) (pack : ℕ) : Type 0 where
   pub serial : ℕ

@@ -8,7 +8,7 @@ ghost use Rattle.sv_model.specs.Places.{Housed};
 ghost use Rattle.sv_registry.specs.Laws.{is_live, place_of};
 ghost use Rattle.sv_registry.specs.Names.{UsesMemtable, UsesList, UsesVersion};
 ghost use Rattle.sv_registry.specs.Parts.{NamesPart};
-ghost use Rattle.sv_registry.specs.Calls.{IsLivePack, IsMade, IsReclaimed, IsEnded, Frees, make_fault};
+ghost use Rattle.sv_registry.specs.Calls.{IsJustMade, IsLivePack, IsMade, IsReclaimed, IsEnded, Frees, make_fault};
 
 use crate::parts::{Part, is_named};
 use std::alloc::Global;
@@ -140,6 +140,17 @@ impl Registry {
             active: self.freed_active(descriptor.active),
             list: self.freed_list(descriptor.list),
             version: self.freed_version(descriptor.version),
+        }
+    }
+
+    /// Undoes the make just done: the SuperVersion made last, which is still Live, was never made, and its
+    /// place is free. Takes no memory.
+    pub fn take_back(&mut self)
+        requires { IsJustMade self.old }
+        ensures { (s : SuperVersion) × (self.old ≡ self.new ++ s ∷ []) }
+    {
+        if let Some(last) = self.records.pop() {
+            self.places[last.place as usize] = 0;
         }
     }
 
