@@ -1,3 +1,4 @@
 mod Held
+pub mod Laws
 mod ReadBack
 mod Spelling
