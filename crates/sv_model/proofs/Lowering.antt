@@ -1,9 +1,9 @@
 -- The loops that count the items of a holder once more, or once less, one after the other.
-use Rattle.std.proofs.Common.{◌≡◌, ℕ, ◌+◌, ◌-◌, ◌<◌, ◌≤◌, List, [], ◌∷◌, ◌++◌, length, get_or, take, drop, arith, refl, sym, ap, subst, ◌∙◌, append_assoc, append-nil, length-append, take-append-drop}
+use Rattle.std.proofs.Common.{◌≡◌, ℕ, ◌+◌, ◌-◌, ◌<◌, ◌≤◌, List, [], ◌∷◌, ◌++◌, length, get_or, take, drop, arith, refl, sym, ap, subst, ◌∙◌, append_assoc, append-nil, take-append-drop}
 use Rattle.std.proofs.lemmas.List.{take_more, drop_more, take_all, drop_all, length_push}
-use Rattle.sv_model.specs.Lists.{IsChosen, total, same, times}
+use Rattle.sv_model.specs.Lists.{IsChosen, same, times}
 use Rattle.sv_model.proofs.Lists.{total-append, total-push, same_here}
-use Rattle.sv_model.proofs.Freed.{freed, freed-take, freed-leave, freed-same, freed_chosen, chosen-same}
+use Rattle.sv_model.proofs.Freed.{freed, freed-take, freed-leave, freed-same, freed_chosen}
 
 -- one more item
 pub times-take_more : (m : ℕ) (xs : List ℕ) (i x : ℕ) → i < length xs → x ≡ get_or xs i 0 → times m (take (i + 1) xs) ≡ times m (take i xs) + same m x

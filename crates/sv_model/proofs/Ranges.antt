@@ -1,5 +1,5 @@
 -- Laws of ranges that join.
-use Rattle.std.proofs.Common.{◌≡◌, ℕ, List, [], ◌∷◌, ◌++◌, refl, sym}
+use Rattle.std.proofs.Common.{ℕ, List, [], ◌∷◌, ◌++◌, refl, sym}
 use Rattle.sv_model.specs.declared.records.FileMeta.{FileMeta}
 use Rattle.sv_model.specs.Ranges.{FilesJoin}
 

@@ -1,11 +1,10 @@
 -- When books come after others: registers only grow, and what is Gone stays so.
-use Rattle.std.specs.Prelude.{◌≡◌, ◌≤◌, ◌++◌, ℕ, Bool, true, false, List}
+use Rattle.std.specs.Prelude.{◌≡◌, ◌≤◌, ◌++◌, false, List}
 use Rattle.sv_model.specs.declared.writes.Write.{Write}
 use Rattle.sv_model.specs.declared.records.SuperVersion.{SuperVersion}
 use Rattle.sv_model.specs.declared.records.Memtable.{Memtable}
 use Rattle.sv_model.specs.declared.records.MemtableList.{MemtableList}
 use Rattle.sv_model.specs.declared.records.Version.{Version}
-use Rattle.sv_model.specs.declared.records.Family.{Family}
 use Rattle.sv_model.specs.Registers.{GoesOn}
 use Rattle.sv_model.specs.Books.{Books}
 

@@ -1,5 +1,5 @@
 -- The books: what contracts see of the state. One record of registers, each of which only grows.
-use Rattle.std.specs.Prelude.{ℕ, ◌+◌, List, [], Option, length, map, unwrap_or, option_map}
+use Rattle.std.specs.Prelude.{ℕ, ◌+◌, List, [], Option, length, unwrap_or, option_map}
 use Rattle.sv_model.specs.declared.writes.Write.{Write}
 use Rattle.sv_model.specs.declared.records.SuperVersion.{SuperVersion}
 use Rattle.sv_model.specs.declared.records.Memtable.{Memtable}

@@ -1,5 +1,5 @@
 -- When a refusal comes.
-use Rattle.std.specs.Prelude.{◌≡◌, ℕ, Bool, List, [], ◌∷◌, Option, Some, None, Result, Ok, Err, cond, ◌&&◌, nat_le}
+use Rattle.std.specs.Prelude.{◌≡◌, ℕ, List, [], ◌∷◌, Option, Some, None, Result, Ok, Err, cond, ◌&&◌, nat_le}
 use Rattle.sv_model.specs.declared.refusals.Refusal.{Refusal}
 use Rattle.sv_model.specs.declared.refusals.Refusal.TheVariants as refusal
 
