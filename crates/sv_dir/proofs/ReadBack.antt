@@ -1,6 +1,6 @@
 -- Names read back: the number of a file's name, and the name of a number that was read.
-use Rattle.std.proofs.Common.{◌≡◌, ◌≢◌, ℕ, zero, suc, ◌+◌, ◌-◌, ◌^◌, ◌<◌, ◌≤◌, ◌⊎◌, inl, inr, Bool, true, false, not, ◌&&◌, cond, eqb, List, [], ◌∷◌, ◌++◌, length, length-append, replicate, get_or, take, drop, Option, Some, None, Result, Ok, refl, sym, ◌∙◌, ap, subst, arith, rules}
-use Rattle.std.specs.Prelude.{◌==◌, decimal, bytes_eq, slice_index}
+use Rattle.std.proofs.Common.{◌≡◌, ◌≢◌, ℕ, zero, suc, ◌+◌, ◌-◌, ◌^◌, ◌<◌, ◌≤◌, ◌⊎◌, inl, inr, Bool, true, false, not, ◌&&◌, cond, List, [], ◌∷◌, ◌++◌, length, length-append, replicate, get_or, take, drop, Option, Some, None, Result, Ok, refl, sym, ◌∙◌, ap, subst, arith}
+use Rattle.std.specs.Prelude.{◌==◌, decimal, bytes_eq}
 use Rattle.std.specs.Str.{all_ascii_digits}
 use Rattle.std.specs.Str.Pattern.{FindsTextSuffix, StripsSuffix}
 use Rattle.std.specs.Str.Parse.{digits_value, ParsesUnsigned}
@@ -12,9 +12,8 @@ use Rattle.std.proofs.lemmas.Bool.{cond-true, cases_lt}
 use Rattle.std.proofs.lemmas.Option.{cond_some}
 use Rattle.std.proofs.lemmas.Slice.Eq.{bytes_eq-Decides}
 use Rattle.std.proofs.lemmas.Str.Parse.{IsNumeralModel, numerals_by_value, tells_all_ascii_digits, digits_value_short, parse_gives}
-use Rattle.std.proofs.lemmas.Fmt.{digits_decimal, digits_value-decimal, decimal_nonempty, first_decimal, length-decimal-le, decimal-digits_value}
+use Rattle.std.proofs.lemmas.Fmt.{digits_decimal, digits_value-decimal, first_decimal, length-decimal-le, decimal-digits_value}
 use Rattle.sv_dir.specs.TableNames.{padded, suffix, file_name, stem_of, ending_of, is_spelled, is_file_name, number_named}
-
 
 own : IsNumeralModel (λ ds. all_ascii_digits ds ≡ true) (digits_value 10)
 own = numerals_by_value (λ ds. all_ascii_digits ds ≡ true) tells_all_ascii_digits
@@ -75,7 +74,7 @@ spelled-padded_by n some most fits (inr long) =
     let few : length (decimal n) ≤ 12 = length-decimal-le 12 n (omega arith) (omega arith) fits in
     let first : 48 < get_or (padded 6 n) 0 0 = subst (λ ds. 48 < get_or ds 0 0) (sym (plain n long)) (first_decimal n (omega arith) fits) in
     spelled (padded 6 n) (digits-zeros (6 - length (decimal n)) (decimal n) (digits_decimal own n fits))
-      (inr (omega (arith, length-padded 6 n), omega (arith, length-padded 6 n), λ e. absurd (omega arith)))
+    (inr (omega (arith, length-padded 6 n), omega (arith, length-padded 6 n), λ e. absurd (omega arith)))
 
 spelled-padded : (n : ℕ) → 1 ≤ n → n ≤ 999999999999 → is_spelled (padded 6 n) ≡ true
 spelled-padded n some most = spelled-padded_by n some most (omega arith) (cases_lt (length (decimal n)) 7)
@@ -114,7 +113,7 @@ pub foreign_ending : (name : List ℕ) → ((front : List ℕ) → name ≢ fron
 unfolding number_named
 foreign_ending name other =
     let differs : (b : Bool) → bytes_eq (ending_of name) suffix ≡ b → bytes_eq (ending_of name) suffix ≡ false =
-        elim [ true ↦ λ e. absurd (other (stem_of name) (stem_and_ending name e)) | false ↦ λ e. e ] in
+    elim [ true ↦ λ e. absurd (other (stem_of name) (stem_and_ending name e)) | false ↦ λ e. e ] in
     ap (λ b. cond (b && is_spelled (stem_of name) && not (digits_value 10 (stem_of name) == 0)) (Some (digits_value 10 (stem_of name))) None) (differs _ refl)
 
 pub foreign_stem : (name stem : List ℕ) → name ≡ stem ++ suffix → is_spelled stem ≡ false → number_named name ≡ None

@@ -9,7 +9,9 @@ use arrayvec::ArrayString;
 use sv_model::FileNumber;
 
 const SUFFIX: &str = ".sst";
+
 const LEAST_DIGITS: usize = 6;
+
 const GREATEST_DIGITS: usize = 12;
 
 #[tactic(auto, using(crate::proofs::Spelling::digit_is_byte))]

@@ -1,3 +1,4 @@
 mod Books
 mod KeptLemmas
 mod LawLemmas
+mod Search

@@ -1,5 +1,5 @@
 -- What the calls of a book of file numbers give and leave.
-use Rattle.std.specs.Prelude.{◌≡◌, ◌+◌, ◌<◌, ◌==◌, ◌||◌, ◌↔◌, ℕ, Bool, cond, nat_le, min, List, [], ◌∷◌, ◌++◌, Option, Some, None, slice_get, slice_set}
+use Rattle.std.specs.Prelude.{◌≡◌, ◌+◌, ◌<◌, ◌≤◌, ◌==◌, ◌||◌, ◌↔◌, ℕ, Bool, cond, nat_le, min, List, [], ◌∷◌, ◌++◌, Option, Some, None, slice_get, slice_set}
 use Rattle.sv_model.specs.declared.records.RegisteredFile.{RegisteredFile}
 use Rattle.sv_model.specs.declared.records.FileStatus.{FileStatus}
 use Rattle.sv_model.specs.declared.records.FileStatus.TheVariants.{Pending, Live, Obsolete, Gone}
@@ -59,3 +59,10 @@ pub record IsSettled (number : ℕ) (live : Bool) (old new : FileRegister) : Typ
   pub of : numbers.it.family ≡ Some family
   pub was : slice_get old.captured family ≡ Some (Some number)
   pub rest : new ≡ record old { numbers = new.numbers; captured = slice_set old.captured family None }
+
+-- the least Obsolete number that is not below `from`
+abbrev pub IsLeastObsolete : List RegisteredFile → ℕ → Option ℕ → Type 0
+IsLeastObsolete numbers from None = (n : ℕ) → from ≤ n → IsRegistered numbers n Obsolete → ⊥
+IsLeastObsolete numbers from (Some number) =
+    (from ≤ number) × IsRegistered numbers number Obsolete
+    × ((n : ℕ) → from ≤ n → IsRegistered numbers n Obsolete → number ≤ n)

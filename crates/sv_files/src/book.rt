@@ -1,12 +1,13 @@
 // The book of file numbers.
-ghost use Rattle.std.specs.Prelude.{◌≡◌, ◌≤◌, ◌<◌, ◌+◌, [], ◌∷◌, ◌++◌, ℕ, Some, None, IsSome, IfOk, OnErr, slice_get, replicate};
+ghost use Rattle.std.specs.Prelude.{◌≡◌, ◌≤◌, ◌<◌, ◌+◌, [], ◌∷◌, ◌++◌, ℕ, Some, None, IsSome, IfSome, IfOk, OnErr, slice_get, replicate};
 ghost use Rattle.std.specs.Ordering.{nat_cmp};
 ghost use Rattle.std.specs.BTreeMap.{get};
 ghost use Rattle.sv_model.specs.declared.records.FileStatus.TheVariants.{Pending, Live, Obsolete, Gone};
 ghost use Rattle.sv_model.specs.Refusals.{Refuses};
-ghost use Rattle.sv_files.specs.Calls.{IsRegistered, IsSettled, MarksOnly, capture_fault, captured_for, least_captured, settled_status};
+ghost use Rattle.sv_files.specs.Calls.{IsRegistered, IsLeastObsolete, IsSettled, MarksOnly, capture_fault, captured_for, least_captured, settled_status};
 ghost use Rattle.sv_files.specs.Laws.{FileLaws};
 
+use crate::obsolete::first_obsolete;
 use std::alloc::Global;
 use std::collections::BTreeMap;
 use std::marker::Model;
@@ -122,6 +123,15 @@ impl FileBook {
         let at = position(&self.kept, number.0);
         self.numbers[at].status = FileStatus::Gone;
         let _ = self.kept.remove(&number.0);
+    }
+
+    /// The least Obsolete number that is at least this one. Takes no memory, and passes over what is
+    /// Pending, Live or Grabbed in between.
+    pub fn obsolete_from(&self, from: u64) -> Option<FileNumber>
+        ensures least { IsLeastObsolete self.now.numbers from result }
+        ensures below { IfSome result (λ number. number < self.now.next) }
+    {
+        first_obsolete(&self.kept, self.numbers.as_slice(), from, self.next)
     }
 
     /// The number that the family's flush or compaction under way has captured. Takes no memory.

@@ -2,5 +2,6 @@
 #![tactic(auto)]
 
 mod book;
+mod obsolete;
 
 pub use book::{FileBook, GREATEST_CAPTURED};

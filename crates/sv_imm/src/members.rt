@@ -36,7 +36,8 @@ pub fn lower(counts: &mut Counts, members: &[MemId]) -> ArrayVec<MemId, 64>
     for mem in members {
         let number = u64::from(mem.0);
         counts.down(number);
-        if counts.count(number) == 0 {
+        let held = counts.count(number);
+        if held == 0 {
             given.push(*mem);
         }
     }

@@ -135,6 +135,45 @@ housed_end live place l places n x y h was alive gone = record {
       omega arith);
 }
 
+-- ---- the Live object made last was never made
+home_pop : {A : Type 0} (live : A → Bool) (place : A → ℕ) (l : List A) (places : List ℕ) (x : A) → Housed live place (l ++ x ∷ []) places → live x ≡ true → (k : ℕ) (y : A) → entry l k ≡ Some y → live y ≡ true → slice_get (set places (place x) 0) (place y) ≡ Some k
+home_pop live place l places x h alive k y is now =
+    let there = h.home k y (entry-old l (x ∷ []) k y is) now in
+    let last = h.home (length l + 1) x (entry-new l x (length l + 1) refl) alive in
+    let within = entry_le l k y is in
+    let apart : place y ≢ place x = λ same. (
+    let both : Some k ≡ Some (length l + 1) = sym there ∙ ap (slice_get places) same ∙ last in
+    let k_is : k ≡ length l + 1 = cc in omega arith) in
+    place_else places (place x) (place y) 0 apart ∙ there
+
+held_pop : {A : Type 0} (live : A → Bool) (place : A → ℕ) (l : List A) (places : List ℕ) (x : A) → Housed live place (l ++ x ∷ []) places → live x ≡ true → (p m : ℕ) → slice_get (set places (place x) 0) p ≡ Some (suc m) → (z : A) × (entry l (suc m) ≡ Some z) × StandsAt live place p z
+held_pop live place l places x h alive p m is = elim (apart_or p (place x)) [
+  | inl here ↦
+      let last = h.home (length l + 1) x (entry-new l x (length l + 1) refl) alive in
+      let now : Some 0 ≡ Some (suc m) = sym (place_same places (place x) 0 (length l + 1) last) ∙ ap (slice_get (set places (place x) 0)) (sym here) ∙ is in
+      let none : 0 ≡ suc m = cc in absurd (omega arith)
+  | inr apart ↦
+      let old = h.held p m (sym (place_else places (place x) p 0 apart) ∙ is) in
+      elim (entry_push l x (suc m) old.0 old.1) [
+        | inl before ↦ (old.0, before, old.2)
+        | inr new ↦ absurd (apart (sym old.2.at ∙ ap place new.1))
+      ]
+]
+
+pub housed_pop : {A : Type 0} (live : A → Bool) (place : A → ℕ) (l : List A) (places : List ℕ) (x : A) → Housed live place (l ++ x ∷ []) places → live x ≡ true → Housed live place l (set places (place x) 0)
+housed_pop live place l places x h alive = record {
+  home = home_pop live place l places x h alive;
+  held = held_pop live place l places x h alive;
+  count = (
+      let last = h.home (length l + 1) x (entry-new l x (length l + 1) refl) alive in
+      let before = total-set (λ id. cond (id == 0) 0 1) places (place x) (length l + 1) 0 last in
+      let after = total-push (λ y. cond (live y) 1 0) l x in
+      let one = one_live (live x) alive in
+      let old = one_taken (length l + 1) (omega arith) in
+      let e = h.count in
+      omega arith);
+}
+
 -- ---- what the scan for a free place says
 taken-le : (places : List ℕ) → taken places ≤ length places
 taken-le [] = omega arith
@@ -181,7 +220,7 @@ held_id live place l places p (suc v) h is some = h.held p v is
 
 one_there : {A : Type 0} (live : A → Bool) (place : A → ℕ) (l : List A) (places : List ℕ) (p v : ℕ) → Housed live place l places → slice_get places p ≡ Some v → (v == 0) ≡ false → Has (StandsAt live place p) l
 one_there live place l places p v h is held =
-  let x = held_id live place l places p v h is (λ e. (let t : (v == 0) ≡ true = eq-eqb v 0 e in cc)) in (v, x.0, x.1, x.2)
+    let x = held_id live place l places p v h is (λ e. (let t : (v == 0) ≡ true = eq-eqb v 0 e in cc)) in (v, x.0, x.1, x.2)
 
 pub least_is : {A : Type 0} (live : A → Bool) (place : A → ℕ) (l : List A) (places : List ℕ) (p : ℕ) → Housed live place l places → first_free places ≡ Some p → (slice_get places p ≡ Some 0) × (p < length places) × (live_count live l < length places) × IsLeastFree live place l p
 least_is live place l places p h some =

@@ -2,12 +2,15 @@ pub mod After
 pub mod Books
 pub mod Counts
 pub mod Faults
+pub mod Flat
 pub mod Journal
 pub mod Lists
 pub mod Named
 pub mod Names
 pub mod Places
+pub mod Ranges
 pub mod Reads
 pub mod Refusals
 pub mod Registers
 pub mod Summaries
+pub mod TableText

@@ -45,7 +45,7 @@ impl Model for Registry {
 }
 
 /// What a reclaimed SuperVersion alone named.
-#[derive(Debug, PartialEq, Eq)]
+#[derive(Clone, Copy, Debug, PartialEq, Eq)]
 pub struct Freed {
     pub active: Option<MemId>,
     pub list: Option<ListId>,

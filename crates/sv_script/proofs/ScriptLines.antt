@@ -1,9 +1,9 @@
 -- What holds of every script, from the grammar alone.
-use Rattle.std.proofs.Common.{◌≡◌, ℕ, ◌+◌, ◌≤◌, ◌<◌, ◌-◌, max, Bool, true, false, cond, ◌&&◌, leb, ltb, List, [], ◌∷◌, ◌++◌, map, fold, length, Option, Some, None, Result, Ok, Err, IfOk, refl, sym, ap, subst, ◌∙◌, arith}
+use Rattle.std.proofs.Common.{◌≡◌, ℕ, ◌+◌, ◌≤◌, ◌<◌, max, Bool, true, false, cond, ◌&&◌, leb, ltb, List, [], ◌∷◌, map, fold, length, Option, Some, None, Result, Ok, Err, IfOk, refl, sym, ap, subst, ◌∙◌, arith}
 use Rattle.std.proofs.lemmas.Bool.Decides.{nat_tests}
 use Rattle.std.proofs.lemmas.List.Elements.{All-from_recursion}
 use Rattle.std.proofs.lemmas.List.Sums.{sum_by-cons}
-use Rattle.std.specs.List.{All, AllByRecursion, count_by}
+use Rattle.std.specs.List.{AllByRecursion, count_by}
 use Rattle.sv_script.specs.declared.scripts.BadKind.{BadKind}
 use Rattle.sv_script.specs.declared.scripts.BadKind.TheVariants as kinds
 use Rattle.sv_script.specs.declared.scripts.BadLine.{BadLine}
@@ -134,7 +134,7 @@ by_line n p b phases words rest lines one few fits more e false sk false en (Ok 
       order = (omega arith, omega arith, g.order);
       few = omega arith;
     } in
-    subst (Good n p b phases) q.2 first
+    subst (Good n p b phases) {x = record { line = n; lane = read.0; phase = p; command = read.1 } ∷ q.0} q.2 first
 
 good : (phases : ℕ) (parts : List (List (List ℕ))) → Goes phases parts
 unfolding lines_from

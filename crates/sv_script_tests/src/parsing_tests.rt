@@ -59,7 +59,7 @@ fn expect_one(
     place: (u64, u32),
     row: (&[u8], &[u8]),
 ) {
-    let script = expect_script(rt, alloc, script, place.1 + 1, 1);
+    let script = expect_script(rt, alloc, script, place.1.saturating_add(1), 1);
     match script.lines.as_slice() {
         [line] => expect_put(rt, line, place, b"cold".as_slice(), row),
         _ => panic!(rt; "other lines"),

@@ -43,6 +43,7 @@ fn take(alloc: Global, read: &mut Progress, words: &[&[u8]]) -> Result<(), Scrip
     ensures goes_on { OnOk result (GoesOn read.old (map (λ word. word.now) words.now) read.new) }
     ensures stops { IfErr result (StopsAt read.old (map (λ word. word.now) words.now)) }
 {
+    // A slice has fewer lines than a u64 counts, so the refusal here is never met.
     let number = read.number;
     let Some(next) = number.checked_add(1) else {
         return Err(ScriptError::OutOfMemory);
@@ -116,8 +117,8 @@ fn script_from(alloc: Global, bytes: &[u8]) -> Result<Script, ScriptError>
     })
 }
 
-/// The script that the bytes are, or its first bad line. Takes one pass over the bytes. `OutOfMemory` also stands for a
-/// script of more than 4,294,967,295 phases.
+/// The script that the bytes are, or its first bad line. `OutOfMemory` also stands for a script of more than
+/// 4,294,967,295 phases, which has at least 24 GiB.
 pub fn parse(alloc: Global, bytes: &[u8]) -> Result<Script, ScriptError>
     ensures script { IsParsed (script_of bytes.now) result }
     ensures well_formed { IfOk result (λ script. IsWellFormed script) }

@@ -3,7 +3,6 @@ ghost use Rattle.std.specs.Prelude.{◌≡◌, ◌++◌, ◌/◌, ◌%◌, ◌<�
 ghost use Rattle.sv_script.specs.Items.{hex_digit, is_plain, byte_text, item_text};
 ghost use Rattle.sv_script.specs.Texts.{numbered, listed};
 
-use itoa::Buffer;
 use sv_model::{FileNumber, OutOfMemory};
 
 /// Appends the bytes.
@@ -15,11 +14,17 @@ pub fn push_bytes(out: &mut Vec<u8>, bytes: &[u8]) -> Result<(), OutOfMemory>
 }
 
 /// Appends the number in decimal.
+#[tactic(auto, using(std::proofs::lemmas::Fmt::decimal_step, std::proofs::lemmas::Fmt::decimal_digit))]
 pub fn push_number(out: &mut Vec<u8>, n: u64) -> Result<(), OutOfMemory>
     ensures { OnOk result (out.new.items ≡ out.old.items ++ decimal n) }
 {
-    let mut buffer = Buffer::new();
-    push_bytes(out, buffer.format(n).as_bytes())
+    if n < 10 {
+        out.push(b'0' + n as u8)?;
+        return Ok(());
+    }
+    push_number(out, n / 10)?;
+    out.push(b'0' + (n % 10) as u8)?;
+    Ok(())
 }
 
 /// Appends the word and the number.

@@ -1,6 +1,6 @@
-use Rattle.std.proofs.Common.{◌≡◌, ◌≤◌, ◌<◌, ◌+◌, ◌^◌, ℕ, List, [], ◌++◌, length, Some, None, Ok, true, sym, ap, ◌∙◌, arith, rules}
+use Rattle.std.proofs.Common.{◌≡◌, sym, ap, ◌∙◌, arith}
 use Rattle.std.specs.Str.Parse.{digits_value}
-use Rattle.sv_dir.specs.TableNames.{suffix, file_name, number_named, is_spelled}
+use Rattle.sv_dir.specs.TableNames.{is_spelled}
 use Rattle.sv_dir.proofs.ReadBack.{stripped, foreign_ending, foreign_stem, foreign_zero, number_of_stem, parse-spelled, file_name-number_named}
 use Rattle.sv_dir.proofs.names.parse_name.Goals as goal
 

@@ -1,8 +1,3 @@
-use Rattle.std.proofs.Common.{Result, Ok, Err, IfOk}
-use Rattle.sv_script.specs.declared.scripts.Script.{Script}
-use Rattle.sv_script.specs.declared.scripts.ScriptError.{ScriptError}
-use Rattle.sv_script.specs.Script.{IsParsed, script_of}
-use Rattle.sv_script.specs.ScriptLaws.{IsWellFormed}
 use Rattle.sv_script.proofs.ScriptLines.{parsed_well}
 use Rattle.sv_script.proofs.parsing.reading.parse.Goals as goal
 

@@ -1,0 +1,12 @@
+pub mod Again
+pub mod Loop
+pub mod OneField
+pub mod Runs
+pub mod Stops
+pub mod Takes
+pub mod Whole
+pub mod Keys
+pub mod Sorting
+pub mod Firsts
+pub mod Merged
+pub mod Unique

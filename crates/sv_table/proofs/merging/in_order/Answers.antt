@@ -1,0 +1,15 @@
+use Rattle.std.proofs.Common.{rules}
+use Rattle.std.proofs.lemmas.Cmp.{nat_list_cmp_total}
+use Rattle.std.proofs.lemmas.List.MinMax.{ranks_by}
+use Rattle.std.proofs.lemmas.List.Sorted.{answers_always, length_permutation}
+use Rattle.std.specs.Cmp.{IsStrictWeakOrder}
+use Rattle.std.proofs.Common.{Bor}
+use Rattle.sv_model.specs.declared.writes.Row.{Row}
+use Rattle.sv_table.proofs.Sorting.{below, in_order}
+use Rattle.sv_table.proofs.merging.in_order.Goals as goal
+
+pub returns : goal.returns
+returns c =
+    let e = c.in_ok-sort_by.ensures in
+    let weak : IsStrictWeakOrder below = ranks_by nat_list_cmp_total (λ (x : Bor Row). x.now.key) in
+    in_order _ _ (e.sorted below weak (answers_always _ _ _ (λ f a r g called. search rules))) (e.stable below weak (answers_always _ _ _ (λ f a r g called. search rules))) (length_permutation _ _ e.permutation)
