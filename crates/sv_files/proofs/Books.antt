@@ -1,19 +1,19 @@
 -- What the book's fields owe after each call.
-use Rattle.std.proofs.Common.{◌≡◌, ◌≢◌, ℕ, suc, ◌+◌, ◌<◌, ◌≤◌, Bool, true, false, cond, List, [], ◌∷◌, ◌++◌, length, Option, Some, None, Result, Ok, Err, OnOk, is_err, is_some, slice_get, set, get_or, arith, refl, sym, ap, subst, ◌∙◌, replicate}
+use Rattle.std.proofs.Common.{◌≡◌, ℕ, suc, ◌+◌, ◌<◌, Bool, true, false, cond, List, [], ◌∷◌, ◌++◌, length, Option, Some, None, Result, Ok, Err, OnOk, is_err, is_some, slice_get, set, arith, refl, sym, ap, subst, ◌∙◌}
 use Rattle.std.specs.Ordering.{nat_cmp}
-use Rattle.std.specs.BTreeMap.{BTreeMap, get, UpdatesBy}
+use Rattle.std.specs.BTreeMap.{BTreeMap, UpdatesBy}
 use Rattle.sv_model.specs.declared.records.RegisteredFile.{RegisteredFile}
 use Rattle.sv_model.specs.declared.records.FileStatus.{FileStatus}
-use Rattle.sv_model.specs.declared.records.FileStatus.TheVariants.{Pending, Live, Obsolete, Grabbed, Gone}
-use Rattle.sv_model.specs.Registers.{entry, change, Has}
+use Rattle.sv_model.specs.declared.records.FileStatus.TheVariants.{Pending, Live, Obsolete, Gone}
+use Rattle.sv_model.specs.Registers.{entry, change}
 use Rattle.sv_model.specs.Books.{FileRegister}
 use Rattle.sv_model.proofs.Lists.{total-push}
 use Rattle.sv_model.proofs.Registers.{total-change}
-use Rattle.sv_files.specs.Calls.{HasStatus, IsRegistered, IsMarked, MarksOnly, IsSettled, settled_status}
+use Rattle.sv_files.specs.Calls.{HasStatus, IsRegistered, MarksOnly, IsSettled, settled_status}
 use Rattle.sv_files.specs.Laws.{FileLaws, captures}
-use Rattle.sv_files.specs.Kept.{KeepsPositions, IsFileBook}
+use Rattle.sv_files.specs.Kept.{IsFileBook}
 use Rattle.sv_files.proofs.LawLemmas.{with_status, fresh, laws_mark, laws_settle, laws_push}
-use Rattle.sv_files.proofs.KeptLemmas.{kept_number, keeps_mark, keeps_gone, keeps_push}
+use Rattle.sv_files.proofs.KeptLemmas.{keeps_mark, keeps_gone, keeps_push}
 
 -- a status says nothing of how many were captured
 captures_mark : (numbers : List RegisteredFile) (i : ℕ) (x : RegisteredFile) (status : FileStatus) → entry numbers i ≡ Some x → captures (change numbers i (with_status x status)) ≡ captures numbers

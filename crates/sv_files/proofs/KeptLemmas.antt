@@ -1,15 +1,14 @@
 -- The map of positions is kept by a push, by a new status, and where a number is Gone.
-use Rattle.std.proofs.Common.{◌≡◌, ◌≢◌, ℕ, zero, suc, ◌+◌, ◌<◌, ◌≤◌, Bool, true, false, cond, ◌⊎◌, inl, inr, List, [], ◌∷◌, ◌++◌, length, Option, Some, None, slice_get, set, get_or, arith, refl, sym, ap, subst, ◌∙◌}
+use Rattle.std.proofs.Common.{◌≡◌, ◌≢◌, ℕ, zero, suc, false, ◌⊎◌, inl, inr, List, [], ◌∷◌, ◌++◌, length, Option, Some, None, slice_get, set, get_or, arith, sym, ap, ◌∙◌}
 use Rattle.std.specs.Ordering.{nat_cmp, is_eq}
 use Rattle.std.specs.BTreeMap.{BTreeMap, get, UpdatesBy}
-use Rattle.std.proofs.lemmas.Bool.{cases_order, lt-ltb, le-ltb, ne_eqb}
 use Rattle.std.proofs.lemmas.Bool.Decides.{nat_tests}
-use Rattle.std.proofs.lemmas.Option.{slice_get_within, get_or_from_slice_get}
+use Rattle.std.proofs.lemmas.Option.{get_or_from_slice_get}
 use Rattle.sv_model.specs.declared.records.RegisteredFile.{RegisteredFile}
 use Rattle.sv_model.specs.declared.records.FileStatus.{FileStatus}
-use Rattle.sv_model.specs.declared.records.FileStatus.TheVariants.{Pending, Live, Obsolete, Grabbed, Gone}
-use Rattle.sv_model.specs.Registers.{entry, change, Has}
-use Rattle.sv_model.proofs.Registers.{entry_le, entry-old, entry-new, entry_push, entry-same, entry-else, entry_change}
+use Rattle.sv_model.specs.declared.records.FileStatus.TheVariants.{Pending, Gone}
+use Rattle.sv_model.specs.Registers.{entry}
+use Rattle.sv_model.proofs.Registers.{entry-old, entry-new, entry_push, entry-same, entry-else, entry_change}
 use Rattle.sv_files.specs.Calls.{HasStatus, IsRegistered}
 use Rattle.sv_files.specs.Laws.{FileLaws}
 use Rattle.sv_files.specs.Kept.{KeepsPositions}

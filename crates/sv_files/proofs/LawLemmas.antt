@@ -1,10 +1,10 @@
 -- The laws of the register are kept by a push, a new status, and the end of a capture.
-use Rattle.std.proofs.Common.{◌≡◌, ◌≢◌, ℕ, suc, ◌+◌, ◌<◌, ◌≤◌, cond, ◌⊎◌, inl, inr, List, [], ◌∷◌, ◌++◌, length, Option, Some, None, is_some, slice_get, set, arith, refl, sym, ap, subst, ◌∙◌, length-set}
+use Rattle.std.proofs.Common.{◌≡◌, ◌≢◌, ℕ, suc, ◌+◌, ◌<◌, ◌⊎◌, inl, inr, List, [], ◌∷◌, ◌++◌, length, Option, Some, None, slice_get, set, arith, refl, sym, ap, subst, ◌∙◌, length-set}
 use Rattle.sv_model.specs.declared.records.RegisteredFile.{RegisteredFile}
 use Rattle.sv_model.specs.declared.records.FileStatus.{FileStatus}
 use Rattle.sv_model.specs.declared.records.FileStatus.TheVariants.{Pending}
 use Rattle.sv_model.specs.Registers.{entry, change, Has}
-use Rattle.sv_model.proofs.Registers.{entry_le, entry-old, entry-new, entry_push, entry-same, entry-else, entry_change}
+use Rattle.sv_model.proofs.Registers.{entry-old, entry-new, entry_push, entry-same, entry-else, entry_change}
 use Rattle.sv_files.specs.Laws.{FileLaws, IsCapture}
 
 apart_or : (p q : ℕ) → (p ≡ q) ⊎ (p ≢ q)

@@ -3,7 +3,6 @@ use Rattle.std.proofs.Common.{◌≡◌, ℕ, ◌+◌, ◌-◌, Bool, IsSomeAnd,
 use Rattle.std.proofs.lemmas.Bool.{lt-leb, le-leb}
 use Rattle.sv_model.specs.declared.records.SuperVersion.{SuperVersion}
 use Rattle.sv_model.specs.declared.records.Descriptor.{Descriptor}
-use Rattle.sv_model.specs.declared.refusals.Refusal.{Refusal}
 use Rattle.sv_model.specs.declared.refusals.Refusal.TheVariants.{RegisterFull, TooManyLive}
 use Rattle.sv_model.specs.Registers.{entry, change, Has}
 use Rattle.sv_model.specs.Places.{first_free, live_count}

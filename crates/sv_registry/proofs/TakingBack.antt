@@ -1,5 +1,5 @@
 -- What the registry's laws owe after the SuperVersion made last is taken back.
-use Rattle.std.proofs.Common.{◌≡◌, ℕ, suc, ◌+◌, ◌<◌, ◌≤◌, true, List, [], ◌∷◌, ◌++◌, length, Some, set, arith, refl, sym, ap, subst, ◌∙◌, length-append, length-set}
+use Rattle.std.proofs.Common.{◌≡◌, ℕ, ◌+◌, true, List, [], ◌∷◌, ◌++◌, length, Some, set, arith, refl, sym, ap, subst, ◌∙◌, length-append, length-set}
 use Rattle.sv_model.specs.declared.records.SuperVersion.{SuperVersion}
 use Rattle.sv_model.specs.Registers.{entry}
 use Rattle.sv_model.proofs.Registers.{entry-new}

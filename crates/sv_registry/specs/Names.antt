@@ -1,5 +1,5 @@
 -- What a SuperVersion names. Only a Live one names anything.
-use Rattle.std.specs.Prelude.{◌≡◌, ℕ, Bool, true}
+use Rattle.std.specs.Prelude.{◌≡◌, ℕ, true}
 use Rattle.sv_model.specs.declared.records.SuperVersion.{SuperVersion}
 
 -- the SuperVersion has this active memtable

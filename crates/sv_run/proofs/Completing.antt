@@ -1,14 +1,13 @@
 -- Where nothing is wrong with the words and the script and nothing fails, the lines are answered.
-use Rattle.std.proofs.Common.{◌≡◌, ◌<◌, ◌≤◌, ◌⊎◌, inl, inr, ℕ, List, [], ◌∷◌, Option, Some, None, Result, Ok, Err, refl, sym, ◌∙◌, arith}
-use Rattle.std.specs.Prelude.{IsSomeAnd, IfSome, length}
-use Rattle.sv_model.specs.Faults.{Rose}
+use Rattle.std.proofs.Common.{◌≡◌, inl, inr, ℕ, List, Option, Some, None, Result, Ok, Err, refl, arith}
+use Rattle.std.specs.Prelude.{IsSomeAnd, IfSome}
 use Rattle.sv_script.specs.declared.Script.{Script}
 use Rattle.sv_script.specs.declared.BadLine.{BadLine}
 use Rattle.sv_script.specs.Script.{script_of}
 use Rattle.sv_run.specs.declared.outcomes.Done.{Done}
 use Rattle.sv_run.specs.declared.outcomes.Status.{Status}
 use Rattle.sv_run.specs.declared.outcomes.Status.TheVariants as status
-use Rattle.sv_run.specs.Ends.{AreRun, IsScript, IsBad, Comes, Follows, Ends, Completes}
+use Rattle.sv_run.specs.Ends.{IsScript, IsBad, Ends, Completes}
 use Rattle.sv_run.specs.Transfers.{IsLong}
 
 apart : (r : Result Script BadLine) (s : Script) (b : BadLine) → r ≡ Ok s → r ≡ Err b → ⊥

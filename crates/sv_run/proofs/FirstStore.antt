@@ -1,10 +1,9 @@
 -- What the one memtable finds is what the whole journal leaves.
-use Rattle.std.proofs.Common.{◌≡◌, ◌<◌, ◌≤◌, ◌+◌, ◌==◌, ℕ, zero, suc, Bool, true, false, cond, List, [], ◌∷◌, ◌++◌, length, get_or, take, filter, All, refl, sym, ◌∙◌, ap, subst, arith, eq-eqb}
-use Rattle.std.specs.Prelude.{option_and_then, map}
-use Rattle.std.proofs.lemmas.List.{take_all, map-append, length-append, length_push}
+use Rattle.std.proofs.Common.{◌≡◌, ℕ, suc, Bool, true, false, cond, List, [], ◌∷◌, length, take, All, refl, sym, ◌∙◌, ap, arith, eq-eqb}
+use Rattle.std.specs.Prelude.{option_and_then}
+use Rattle.std.proofs.lemmas.List.{take_all}
 use Rattle.sv_model.specs.declared.Write.{Write}
-use Rattle.sv_model.specs.declared.Row.{Row}
-use Rattle.sv_model.specs.Journal.{of_family, borne_by, rows_of, row_of, newest_op, look, value_of}
+use Rattle.sv_model.specs.Journal.{of_family, borne_by, rows_of, newest_op, look, value_of}
 use Rattle.sv_model.specs.declared.End.TheVariants.{Clean}
 use Rattle.sv_model.specs.declared.FamilyLine.{FamilyLine}
 use Rattle.sv_model.specs.declared.Summary.{Summary}

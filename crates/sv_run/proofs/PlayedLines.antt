@@ -1,16 +1,12 @@
 -- The lines that were answered, one after another.
-use Rattle.std.proofs.Common.{◌≡◌, ◌<◌, ◌≤◌, ◌+◌, ℕ, zero, suc, List, [], ◌∷◌, ◌++◌, length, take, get_or, map, All, Option, Some, None, false, true, refl, sym, ◌∙◌, ap, subst, arith}
-use Rattle.std.specs.Prelude.{slice_get}
+use Rattle.std.proofs.Common.{◌≡◌, ◌<◌, ◌+◌, ℕ, List, [], ◌∷◌, ◌++◌, length, take, get_or, false, refl, sym, ◌∙◌, ap, subst, arith}
 use Rattle.std.proofs.lemmas.List.{length-take, map-append, take_more}
-use Rattle.sv_model.specs.declared.Write.{Write}
 use Rattle.sv_model.specs.Books.{Books}
-use Rattle.sv_model.specs.After.{After}
 use Rattle.sv_script.specs.declared.Line.{Line}
 use Rattle.sv_script.specs.declared.Reply.{Reply}
-use Rattle.sv_script.specs.Answered.{Answered, answered, accepted}
-use Rattle.sv_script.specs.ReplyLaw.{RepliesFit}
+use Rattle.sv_script.specs.Answered.{answered}
 use Rattle.sv_run.specs.FirstBooks.{first_books}
-use Rattle.sv_run.specs.Steps.{IsOneLane, Steps}
+use Rattle.sv_run.specs.Steps.{Steps}
 use Rattle.sv_run.specs.Told.{Told, Played}
 use Rattle.sv_run.proofs.Telling.{told-push}
 

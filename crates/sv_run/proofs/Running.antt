@@ -1,19 +1,18 @@
 -- From the lines that were answered to a run that is done.
-use Rattle.std.proofs.Common.{◌≡◌, ◌<◌, ◌≤◌, ◌+◌, ◌↔◌, ℕ, zero, suc, Bool, true, false, IsTrue, List, [], ◌∷◌, ◌++◌, length, map, get_or, All, Option, Some, None, refl, sym, ◌∙◌, ap, subst, arith}
+use Rattle.std.proofs.Common.{◌≡◌, ◌↔◌, ℕ, zero, suc, Bool, true, false, IsTrue, List, [], ◌∷◌, length, map, get_or, Some, refl, sym, ◌∙◌, ap, subst, arith}
 use Rattle.std.specs.Prelude.{codes}
 use Rattle.std.proofs.lemmas.List.{append-nil}
 use Rattle.sv_model.specs.declared.Write.{Write}
 use Rattle.sv_model.specs.Journal.{change_of}
-use Rattle.sv_model.specs.Registers.{entry, GoesOn}
+use Rattle.sv_model.specs.Registers.{GoesOn}
 use Rattle.sv_model.specs.Books.{Books}
 use Rattle.sv_model.specs.After.{After, KeepsSuper, KeepsMemtable, KeepsList, KeepsVersion}
 use Rattle.sv_script.specs.declared.Script.{Script}
 use Rattle.sv_script.specs.declared.Reply.{Reply}
 use Rattle.sv_script.specs.declared.LaneReport.{LaneReport}
-use Rattle.sv_run.specs.declared.outcomes.Done.{Done}
-use Rattle.sv_run.specs.Ends.{AreRun, LaneRan, HasRun}
+use Rattle.sv_run.specs.Ends.{AreRun, HasRun}
 use Rattle.sv_run.specs.FirstBooks.{first_books}
-use Rattle.sv_run.specs.Told.{Told, Played}
+use Rattle.sv_run.specs.Told.{Played}
 
 head : (x y : List ℕ) → x ∷ [] ≡ y ∷ [] → x ≡ y
 head x y e = cc

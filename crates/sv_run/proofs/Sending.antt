@@ -1,12 +1,10 @@
 -- A text that is written whole or in part ends the run.
-use Rattle.std.proofs.Common.{◌≡◌, ℕ, List, Option, Some, None}
+use Rattle.std.proofs.Common.{ℕ, List, Option, Some, None}
 use Rattle.std.specs.Io.KnownBytes.{Appends}
-use Rattle.sv_model.specs.Faults.{Rose}
 use Rattle.sv_run.specs.declared.outcomes.Done.{Done}
 use Rattle.sv_run.specs.declared.outcomes.Status.{Status}
 use Rattle.sv_run.specs.declared.outcomes.Status.TheVariants as status
-use Rattle.sv_run.specs.Ends.{AreRun, Comes, Follows, Ends, IsCutOff, due_text}
-use Rattle.sv_run.specs.Transfers.{AppendsPart}
+use Rattle.sv_run.specs.Ends.{Follows, Ends, due_text}
 
 pub ends-whole : (words : List (List ℕ)) (left : Option (List ℕ)) (before now : ℕ) (old new : Option (List ℕ)) (wb wn : ℕ) (stands : Option Done) (due : Status) → Follows words left before now stands due → Appends old new (due_text stands due) → Ends words left before now old new wb wn stands due
 ends-whole words left before now old new wb wn stands status.Ok f a = (f, a)

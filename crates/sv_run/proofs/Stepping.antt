@@ -1,26 +1,23 @@
 -- What one command does to the first store, and why its reply fits.
-use Rattle.std.proofs.Common.{◌≡◌, ◌<◌, ◌≤◌, ◌+◌, ◌==◌, ℕ, zero, suc, Bool, true, false, cond, List, [], ◌∷◌, ◌++◌, length, get_or, take, filter, map, All, Option, Some, None, refl, sym, ◌∙◌, ap, subst, arith, eq-eqb, append_assoc, nat_eq}
+use Rattle.std.proofs.Common.{◌≡◌, ◌≤◌, ◌+◌, ◌==◌, ℕ, suc, Bool, true, false, cond, List, [], ◌∷◌, ◌++◌, length, take, All, Option, Some, None, refl, sym, ◌∙◌, ap, subst, arith, eq-eqb, nat_eq}
 use Rattle.std.specs.Prelude.{slice_get, IsSomeAnd, codes, option_and_then}
 use Rattle.std.specs.Cmp.Lexicographic.{pointwise}
-use Rattle.std.proofs.lemmas.List.{append-nil, length-append, length_push, take_all, take-append-le, map-append}
+use Rattle.std.proofs.lemmas.List.{append-nil, length-append, length_push, take-append-le}
 use Rattle.std.proofs.lemmas.List.Elements.{filter-append}
 use Rattle.sv_model.specs.declared.Write.{Write}
 use Rattle.sv_model.specs.declared.Op.{Op}
 use Rattle.sv_model.specs.declared.Op.TheVariants as op
-use Rattle.sv_model.specs.declared.Refusal.{Refusal}
-use Rattle.sv_model.specs.declared.Refusal.TheVariants as refusal
-use Rattle.sv_model.specs.declared.SuperVersion.{SuperVersion}
 use Rattle.sv_model.specs.declared.Descriptor.{Descriptor}
 use Rattle.sv_model.specs.Journal.{of_family, borne_by, look, rows_of, newest_op, value_of}
-use Rattle.sv_model.specs.Registers.{entry, GoesOn}
-use Rattle.sv_model.specs.Books.{Books, end_of}
-use Rattle.sv_model.specs.After.{After, Continues, KeepsSuper}
-use Rattle.sv_model.specs.Reads.{IsWrittenAt, IsWrite, LooksAt, Serves}
+use Rattle.sv_model.specs.Registers.{entry}
+use Rattle.sv_model.specs.Books.{Books}
+use Rattle.sv_model.specs.After.{After}
+use Rattle.sv_model.specs.Reads.{IsWrite, Serves}
 use Rattle.sv_model.specs.Refusals.{first_due, key_fault, value_fault}
 use Rattle.sv_model.proofs.Refusing.{none_due}
-use Rattle.sv_script.specs.Answered.{Answered, accepted, handle_of, seen, newest_serial}
+use Rattle.sv_script.specs.Answered.{Answered, handle_of, seen, newest_serial}
 use Rattle.sv_script.specs.ReplyLaw.{handle_fault, room_fault, Writes, Gets}
-use Rattle.sv_run.specs.FirstBooks.{first_books, first_super, first_write}
+use Rattle.sv_run.specs.FirstBooks.{first_super, first_write}
 use Rattle.sv_run.specs.Bears.{IsFirst}
 use Rattle.sv_run.specs.Steps.{IsOneLane, Steps, get_reply}
 use Rattle.sv_script.specs.declared.Command.TheVariants as command

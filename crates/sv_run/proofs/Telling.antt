@@ -1,6 +1,6 @@
 -- A further command and its reply keep what the lane was told.
-use Rattle.std.proofs.Common.{◌≡◌, ◌<◌, ◌≤◌, ◌+◌, ◌⊎◌, inl, inr, ℕ, zero, suc, max, List, [], ◌∷◌, ◌++◌, length, take, map, All, Option, Some, None, false, refl, sym, ◌∙◌, ap, subst, arith, append_assoc}
-use Rattle.std.specs.Prelude.{slice_get, flat_map}
+use Rattle.std.proofs.Common.{◌≡◌, ◌≤◌, inl, inr, ℕ, zero, suc, List, [], ◌∷◌, ◌++◌, length, take, map, All, Some, false, refl, sym, ◌∙◌, ap, subst, arith, append_assoc}
+use Rattle.std.specs.Prelude.{slice_get}
 use Rattle.std.proofs.Math.Nat.{max-le, le-max_left, le-max_right}
 use Rattle.std.proofs.lemmas.Bool.{cases_lt}
 use Rattle.std.proofs.lemmas.List.{append-nil, length-append, length_push, length-map, take_all, take-append-le, map-append}
@@ -9,9 +9,8 @@ use Rattle.std.proofs.lemmas.Grind.{flat_map-append}
 use Rattle.std.proofs.lemmas.Option.{slice_get_within}
 use Rattle.sv_memtable.proofs.Indexing.{slice_get-last, slice_get-before}
 use Rattle.sv_model.specs.declared.Write.{Write}
-use Rattle.sv_model.specs.declared.Op.TheVariants as op
 use Rattle.sv_model.specs.Journal.{Change, change_of}
-use Rattle.sv_model.specs.Registers.{entry, GoesOn}
+use Rattle.sv_model.specs.Registers.{GoesOn}
 use Rattle.sv_model.specs.Books.{Books}
 use Rattle.sv_model.specs.After.{After, Continues, KeepsSuper, KeepsMemtable, KeepsList, KeepsVersion}
 use Rattle.sv_script.specs.declared.Command.{Command}
@@ -19,8 +18,8 @@ use Rattle.sv_script.specs.declared.Command.TheVariants as command
 use Rattle.sv_script.specs.declared.Reply.{Reply}
 use Rattle.sv_script.specs.declared.Reply.TheVariants as reply
 use Rattle.sv_script.specs.Answered.{Answered, accepted, change_asked, seen, newest_serial, shown_by, serial_by}
-use Rattle.sv_script.specs.ReplyLaw.{ReplyFits, RepliesFit, GetsSeeAll, CutIs}
-use Rattle.sv_run.specs.FirstBooks.{first_books, first_write}
+use Rattle.sv_script.specs.ReplyLaw.{ReplyFits, CutIs}
+use Rattle.sv_run.specs.FirstBooks.{first_books}
 use Rattle.sv_run.specs.Bears.{IsFirst}
 use Rattle.sv_run.specs.Steps.{IsOneLane, Steps, writes_of}
 use Rattle.sv_run.specs.Told.{Told}

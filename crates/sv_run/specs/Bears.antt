@@ -1,5 +1,5 @@
 -- The one memtable bears the whole journal.
-use Rattle.std.specs.Prelude.{◌≡◌, ◌≤◌, ℕ, List, All, length}
+use Rattle.std.specs.Prelude.{◌≡◌, ◌≤◌, List, All, length}
 use Rattle.sv_model.specs.declared.Write.{Write}
 use Rattle.sv_model.specs.Journal.{rows_of}
 use Rattle.sv_memtable.specs.Cell.{Cell}

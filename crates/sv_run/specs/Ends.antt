@@ -1,5 +1,5 @@
 -- What a run owes: how it may end, and what is then written.
-use Rattle.std.specs.Prelude.{◌≡◌, ◌<◌, ◌≤◌, ◌⊎◌, ℕ, true, List, [], ◌∷◌, Option, Some, None, Result, Ok, Err, IfSome, IsSomeAnd, codes, map, length, take}
+use Rattle.std.specs.Prelude.{◌≡◌, ◌≤◌, ◌⊎◌, ℕ, true, List, [], ◌∷◌, Option, Some, None, Ok, Err, IfSome, IsSomeAnd, codes, map, length}
 use Rattle.std.specs.Io.KnownBytes.{Appends}
 use Rattle.sv_model.specs.Faults.{Rose}
 use Rattle.sv_model.specs.Journal.{change_of}

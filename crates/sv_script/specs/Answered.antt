@@ -1,8 +1,7 @@
 -- What the earlier replies of a lane tell: which writes were accepted, and how far the lane has seen.
-use Rattle.std.specs.Prelude.{◌≡◌, ℕ, Bool, true, false, cond, nat_eq, max, List, [], ◌∷◌, ◌++◌, Option, Some, None, map, filter, option_map, codes, fold}
+use Rattle.std.specs.Prelude.{ℕ, cond, nat_eq, max, List, [], ◌∷◌, Option, Some, None, codes}
 use Rattle.std.specs.List.{flat_map}
 use Rattle.std.specs.Cmp.Lexicographic.{pointwise}
-use Rattle.sv_model.specs.declared.Op.{Op}
 use Rattle.sv_model.specs.declared.Op.TheVariants as op
 use Rattle.sv_model.specs.Journal.{Change}
 use Rattle.sv_script.specs.declared.scripts.Line.{Line}

@@ -1,6 +1,6 @@
 -- When the replies of a lane fit books: each is the reply to its command that these books, and the lane's
 -- earlier replies, allow.
-use Rattle.std.specs.Prelude.{◌≡◌, ◌<◌, ◌≤◌, ℕ, Bool, cond, nat_lt, List, [], ◌∷◌, Option, Some, None, length, take, slice_get, IsSomeAnd}
+use Rattle.std.specs.Prelude.{◌≡◌, ◌<◌, ◌≤◌, ℕ, cond, nat_lt, List, [], ◌∷◌, Option, Some, None, length, take, slice_get, IsSomeAnd}
 use Rattle.sv_model.specs.declared.Op.{Op}
 use Rattle.sv_model.specs.declared.Op.TheVariants as op
 use Rattle.sv_model.specs.declared.Refusal.{Refusal}

@@ -1,4 +1,4 @@
-use Rattle.std.proofs.Common.{◌≡◌, ℕ, ◌≤◌, min, List, [], ◌∷◌, Option, Some, None, drop, length, arith, sym, ap, ◌∙◌}
+use Rattle.std.proofs.Common.{ℕ, ◌≤◌, List, [], ◌∷◌, Option, Some, None, arith}
 use Rattle.std.proofs.lemmas.List.{at_drop_all}
 use Rattle.sv_files.specs.Calls.{least_captured}
 use Rattle.sv_files.proofs.book.least.Goals as goal

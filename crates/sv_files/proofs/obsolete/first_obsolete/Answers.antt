@@ -1,4 +1,4 @@
-use Rattle.std.proofs.Common.{◌≡◌, suc, arith, sym, ◌∙◌}
+use Rattle.std.proofs.Common.{suc, arith, sym, ◌∙◌}
 use Rattle.std.proofs.lemmas.Bool.{false≢true}
 use Rattle.sv_files.proofs.Search.{read_at, none_before, none_up_to, none_after, least_of}
 use Rattle.sv_files.proofs.obsolete.first_obsolete.Goals as goal

@@ -1,5 +1,5 @@
 -- What the calls for a command ensure is its step.
-use Rattle.std.proofs.Common.{◌≡◌, List, ℕ, sym, subst}
+use Rattle.std.proofs.Common.{List, ℕ, sym, subst}
 use Rattle.sv_script.specs.declared.Command.{Command}
 use Rattle.sv_script.specs.declared.Command.TheVariants as command
 use Rattle.sv_script.specs.declared.Reply.{Reply}

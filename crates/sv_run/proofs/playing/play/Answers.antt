@@ -1,7 +1,6 @@
 -- The line that was answered last.
-use Rattle.std.proofs.Common.{arith, ◌≡◌, ◌+◌, ◌++◌, ◌∷◌, [], List, ℕ, length, subst, sym, ◌∙◌}
+use Rattle.std.proofs.Common.{arith, ◌+◌, List, ℕ, subst, sym, ◌∙◌}
 use Rattle.std.specs.Prelude.{take}
-use Rattle.std.proofs.lemmas.Grind.{common_steps}
 use Rattle.sv_script.specs.declared.Reply.{Reply}
 use Rattle.sv_run.specs.Told.{Played}
 use Rattle.sv_run.proofs.PlayedLines.{played-more}

@@ -1,5 +1,5 @@
 -- The lines are built, and what they were answered is a run.
-use Rattle.std.proofs.Common.{◌≡◌, All, List, subst, sym}
+use Rattle.std.proofs.Common.{All, List, subst, sym}
 use Rattle.sv_script.specs.Built.{IsBuilt}
 use Rattle.sv_script.specs.declared.Line.{Line}
 use Rattle.sv_run.specs.Told.{Played}

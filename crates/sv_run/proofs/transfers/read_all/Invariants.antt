@@ -1,5 +1,5 @@
 -- What was read is a front of what the source had.
-use Rattle.std.proofs.Common.{◌≤◌, ◌<◌, ◌-◌, length, vec_len}
+use Rattle.std.proofs.Common.{◌≤◌, ◌<◌, ◌-◌, vec_len}
 use Rattle.std.specs.Io.KnownBytes.{Consumes}
 use Rattle.sv_run.proofs.transfers.read_all.Given as goal
 

@@ -1,7 +1,7 @@
 -- A piece that follows what was written makes a longer front.
-use Rattle.std.proofs.Common.{arith, ◌≤◌, ◌-◌, ℕ, length, take, drop, subst}
+use Rattle.std.proofs.Common.{arith, ◌≤◌, ◌-◌, length, take, drop, subst}
 use Rattle.std.specs.Io.KnownBytes.{Appends}
-use Rattle.std.proofs.lemmas.List.{length-take, length-drop, take-take}
+use Rattle.std.proofs.lemmas.List.{length-take, take-take}
 use Rattle.sv_run.proofs.Moving.{appends_more}
 use Rattle.sv_run.proofs.transfers.write_all.Goals as goal
 

@@ -1,8 +1,7 @@
-use Rattle.std.proofs.Common.{◌≡◌, ℕ, get_or, Some, None, slice_get, sym, subst, ◌∙◌}
+use Rattle.std.proofs.Common.{◌≡◌, ℕ, None, sym, subst, ◌∙◌}
 use Rattle.std.specs.BTreeMap.{UpdatesBy}
 use Rattle.std.specs.Ordering.{nat_cmp}
-use Rattle.sv_model.specs.declared.records.FileStatus.TheVariants.{Pending, Live, Obsolete, Gone}
-use Rattle.sv_files.specs.Calls.{HasStatus}
+use Rattle.sv_model.specs.declared.records.FileStatus.TheVariants.{Pending, Obsolete, Gone}
 use Rattle.sv_files.proofs.KeptLemmas.{kept_number}
 use Rattle.sv_files.proofs.Books.{book_gone, marks_is, registered_here, marks_there}
 use Rattle.sv_files.proofs.book.FileBook.removed.Goals as goal

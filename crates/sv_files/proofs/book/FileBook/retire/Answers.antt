@@ -1,6 +1,5 @@
-use Rattle.std.proofs.Common.{◌≡◌, get_or, Some, slice_get, sym, ◌∙◌}
+use Rattle.std.proofs.Common.{◌≡◌, sym, ◌∙◌}
 use Rattle.sv_model.specs.declared.records.FileStatus.TheVariants.{Pending, Live, Obsolete, Gone}
-use Rattle.sv_files.specs.Calls.{HasStatus}
 use Rattle.sv_files.proofs.KeptLemmas.{kept_number}
 use Rattle.sv_files.proofs.Books.{book_mark, marks_is, registered_here, marks_there}
 use Rattle.sv_files.proofs.book.FileBook.retire.Goals as goal

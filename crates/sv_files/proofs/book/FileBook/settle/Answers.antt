@@ -1,6 +1,5 @@
-use Rattle.std.proofs.Common.{◌≡◌, get_or, Some, slice_get, sym, ap, ◌∙◌}
+use Rattle.std.proofs.Common.{Some, sym, ap, ◌∙◌}
 use Rattle.sv_model.specs.declared.records.FileStatus.TheVariants.{Pending}
-use Rattle.sv_files.specs.Calls.{HasStatus}
 use Rattle.sv_files.proofs.KeptLemmas.{kept_number}
 use Rattle.sv_files.proofs.Books.{book_settle, settled_is, has_family, settled_not_pending, settled_not_gone, registered_here}
 use Rattle.sv_files.proofs.book.FileBook.settle.Goals as goal

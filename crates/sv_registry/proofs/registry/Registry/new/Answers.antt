@@ -1,4 +1,4 @@
-use Rattle.std.proofs.Common.{sym, subst, ap, arith, length, ◌≤◌, ◌≡◌}
+use Rattle.std.proofs.Common.{sym, subst, arith, length, ◌≤◌}
 use Rattle.sv_model.specs.Places.{Housed}
 use Rattle.sv_registry.specs.Laws.{is_live, place_of}
 use Rattle.sv_registry.proofs.registry.Registry.new.Goals as goal

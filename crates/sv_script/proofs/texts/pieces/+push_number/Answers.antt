@@ -1,5 +1,5 @@
 -- The last digit stands after those of a tenth of the number.
-use Rattle.std.proofs.Common.{◌≡◌, ◌++◌, ◌∷◌, [], ◌+◌, ◌/◌, ◌%◌, decimal, sym, ◌∙◌, ap, append_assoc, arith}
+use Rattle.std.proofs.Common.{◌++◌, ◌∷◌, [], ◌+◌, ◌/◌, ◌%◌, decimal, sym, ◌∙◌, ap, append_assoc, arith}
 use Rattle.std.proofs.lemmas.Fmt.{decimal_step}
 use Rattle.sv_script.proofs.texts.pieces.+push_number.Goals as goal
 
