@@ -5,3 +5,4 @@ pub mod PlaceLaws
 pub mod Ranges
 pub mod Refusing
 pub mod Registers
+pub mod SortedRows

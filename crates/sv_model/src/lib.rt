@@ -12,6 +12,7 @@ mod records;
 mod refusals;
 mod reports;
 mod settings;
+mod sorted_rows;
 mod values;
 mod writes;
 
@@ -29,5 +30,6 @@ pub use records::{
 pub use refusals::Refusal;
 pub use reports::{End, FamilyLine, Summary, Totals};
 pub use settings::{OptionName, Options};
+pub use sorted_rows::find_row;
 pub use values::{GREATEST_VALUE, Value};
 pub use writes::{Op, Row, Write, newest};

@@ -7,7 +7,7 @@ use Rattle.sv_model.specs.declared.writes.Row.{Row}
 use Rattle.sv_model.specs.Journal.{same_key}
 use Rattle.sv_model.specs.Flat.{is_below, AscendsFrom, Ascends, is_delete, kept, row_at}
 use Rattle.sv_table.specs.Merging.{RisesFrom, Rises, is_again, firsts}
-use Rattle.sv_table.proofs.Keys.{same_eq, above, below_trans, absent_below, ascends_rest}
+use Rattle.sv_model.proofs.SortedRows.{same_eq, above, below_trans, absent_below, ascends_rest}
 
 -- ---- keys ascend
 

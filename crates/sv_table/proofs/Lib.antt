@@ -5,7 +5,6 @@ pub mod Runs
 pub mod Stops
 pub mod Takes
 pub mod Whole
-pub mod Keys
 pub mod Sorting
 pub mod Firsts
 pub mod Merged

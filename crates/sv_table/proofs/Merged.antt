@@ -13,7 +13,7 @@ use Rattle.sv_model.specs.Flat.{range_of, AscendsFrom, Ascends, is_delete, kept,
 use Rattle.sv_model.specs.TableText.{IsWellFormed}
 use Rattle.sv_table.specs.declared.tables.Table.{Table}
 use Rattle.sv_table.specs.Merging.{Joined, NoneBottom, AreWellFormed, all_rows, AreFlats, InOrder, firsts}
-use Rattle.sv_table.proofs.Keys.{same_eq, absent_below, ascends_rest}
+use Rattle.sv_model.proofs.SortedRows.{same_eq, absent_below, ascends_rest}
 use Rattle.sv_table.proofs.Firsts.{all_up, all_found, at_most, at_least, none_deleted}
 
 -- ---- the newest row of a key

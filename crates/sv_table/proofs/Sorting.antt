@@ -10,7 +10,7 @@ use Rattle.sv_model.specs.declared.writes.Row.{Row}
 use Rattle.sv_model.specs.Journal.{same_key}
 use Rattle.sv_model.specs.Flat.{is_below, row_at}
 use Rattle.sv_table.specs.Merging.{RisesFrom, Rises, InOrder}
-use Rattle.sv_table.proofs.Keys.{tie_same}
+use Rattle.sv_model.proofs.SortedRows.{tie_same}
 
 abbrev pub below : Bor Row → Bor Row → Bool
 below x y = is_below x.now.key y.now.key

@@ -5,7 +5,7 @@ use Rattle.sv_model.specs.Journal.{same_key}
 use Rattle.sv_model.specs.Flat.{is_below, AscendsFrom, Ascends, row_at, IsFlatOf}
 use Rattle.sv_model.specs.TableText.{HasText, table_text}
 use Rattle.sv_table.specs.Reading.{Contents, table_at}
-use Rattle.sv_table.proofs.Keys.{same_eq, same_yes, above, absent_below, ascends_rest}
+use Rattle.sv_model.proofs.SortedRows.{same_eq, same_yes, above, absent_below, ascends_rest}
 use Rattle.sv_table.proofs.Again.{table_again}
 use Rattle.sv_table.proofs.Runs.{ok_is}
 

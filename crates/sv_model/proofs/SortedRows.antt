@@ -1,10 +1,9 @@
--- The order of keys, and what a table has of a key.
-use Rattle.std.proofs.Common.{◌≡◌, ℕ, zero, suc, ◌<◌, Bool, true, false, cond, not, ◌&&◌, List, [], ◌∷◌, length, get_or, Some, None, Ok, Err, refl, sym, ap, subst, ◌∙◌, arith, inl, inr}
+-- The order of keys, and what rows that ascend by key have of a key.
+use Rattle.std.proofs.Common.{◌≡◌, ℕ, zero, suc, ◌<◌, Bool, true, false, cond, not, ◌&&◌, List, [], ◌∷◌, length, get_or, Some, None, Ok, Err, refl, sym, ap, ◌∙◌, arith, inl, inr}
 use Rattle.std.specs.declared.cmp.Ordering.{Ordering}
 use Rattle.std.specs.declared.cmp.Ordering.TheVariants.{Less, Equal, Greater}
 use Rattle.std.specs.Ordering.{nat_cmp, is_lt, is_eq, ordering_reverse}
 use Rattle.std.specs.Cmp.Lexicographic.{slice_cmp}
-use Rattle.std.specs.Option.{option_map}
 use Rattle.std.specs.List.Sorted.{IsSortedBy, IsBinarySearchResult}
 use Rattle.std.proofs.lemmas.Cmp.{nat_list_cmp_total}
 use Rattle.std.proofs.lemmas.Map.Text.{is_eq-slice_cmp}
@@ -138,11 +137,3 @@ searched_none rows key at up parted =
       | inl low ↦ not_less (sym (sides.0 j d (omega arith) low) ∙ level)
       | inr high ↦ not_greater (sym (sides.1 j d high lt) ∙ level)
     ])
-
-pub find_ok : (rows own : List Row) (key : List ℕ) (at : ℕ) (d : Row) → rows ≡ own → at < length rows → IsBinarySearchResult (λ row. slice_cmp nat_cmp row.key key) rows (Ok at) → Ascends own
-    → Some (get_or rows at d).op ≡ option_map (λ row. row.op) (row_at key own)
-find_ok rows own key at d same lt found up =
-    sym (ap (option_map (λ (row : Row). row.op)) (ap (row_at key) (sym same) ∙ searched_at rows key at d (subst Ascends (sym same) up) lt found))
-
-pub find_none : (rows own : List Row) (key : List ℕ) (at : ℕ) → rows ≡ own → IsBinarySearchResult (λ row. slice_cmp nat_cmp row.key key) rows (Err at) → Ascends own → row_at key own ≡ None
-find_none rows own key at same parted up = ap (row_at key) (sym same) ∙ searched_none rows key at (subst Ascends (sym same) up) parted
