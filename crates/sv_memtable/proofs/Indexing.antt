@@ -1,5 +1,5 @@
 -- A row that is appended, with its place put into the map, keeps the map leading to the newest rows.
-use Rattle.std.proofs.Common.{◌≡◌, ◌<◌, ◌≤◌, ◌+◌, ℕ, zero, suc, Bool, true, false, cond, List, [], ◌∷◌, ◌++◌, length, reverse, Option, Some, None, IfSome, refl, sym, ◌∙◌, ap, subst, arith}
+use Rattle.std.proofs.Common.{◌≡◌, ◌<◌, ℕ, zero, suc, Bool, true, false, cond, List, [], ◌∷◌, ◌++◌, length, Option, Some, None, IfSome, refl, sym, ◌∙◌, ap, subst, arith}
 use Rattle.std.specs.Prelude.{slice_get, option_and_then, find}
 use Rattle.std.specs.Ordering.{nat_cmp}
 use Rattle.std.specs.Cmp.{eq_by_cmp_equiv}
@@ -41,5 +41,5 @@ pub indexed-push : (rows : List Row) (old new : BTreeMap (List ℕ) ℕ) (row : 
 indexed-push rows old new row h few u = record {
   few = omega (arith, length-append rows (row ∷ []));
   leads = λ key. ap (option_and_then (slice_get (rows ++ row ∷ []))) (u.0 key) ∙ led (same_key row.key key) rows row (get (slice_cmp nat_cmp) old key) (newest_row key rows) (h.leads key) (h.within key) ∙ ap (λ b. cond b (Some row) (newest_row key rows)) ((eq_by_cmp_equiv nat_list_cmp_total).symm row.key key) ∙ sym (newest_row-push key rows row);
-  within = λ key. subst (λ o. IfSome o (λ at. at < length (rows ++ row ∷ []))) (sym (u.0 key)) (stays (same_key row.key key) (length rows) (length (rows ++ row ∷ [])) (get (slice_cmp nat_cmp) old key) (omega (arith, length-append rows (row ∷ []))) (h.within key))
+  within = λ key. subst (λ o. IfSome o (λ at. at < length (rows ++ row ∷ []))) (sym (u.0 key)) (stays (same_key row.key key) (length rows) (length (rows ++ row ∷ [])) (get (slice_cmp nat_cmp) old key) (omega (arith, length-append rows (row ∷ []))) (h.within key));
 }
