@@ -1,1 +1,3 @@
+pub mod Known
+pub mod KnownVersions
 pub mod Live

@@ -1,5 +1,5 @@
 -- Which lists and Versions are live after a call.
-use Rattle.std.proofs.Common.{◌≡◌, ◌≢◌, ℕ, ◌+◌, ◌<◌, ◌++◌, ◌∷◌, [], List, Some, length, refl, sym, ap, subst, ◌∙◌, arith}
+use Rattle.std.proofs.Common.{◌≡◌, ℕ, ◌+◌, ◌<◌, [], List, Some, length, refl, sym, ap, subst, ◌∙◌, arith}
 use Rattle.std.proofs.lemmas.List.{length_push}
 use Rattle.std.proofs.lemmas.Option.{same_Some}
 use Rattle.sv_model.specs.declared.records.MemtableList.{MemtableList}
@@ -7,7 +7,7 @@ use Rattle.sv_model.specs.declared.records.Version.{Version}
 use Rattle.sv_model.specs.declared.records.FileMeta.{FileMeta}
 use Rattle.sv_model.specs.Named.{IsLiveList, IsLiveVersion}
 use Rattle.sv_model.specs.Registers.{entry}
-use Rattle.sv_model.proofs.Registers.{entry-new, entry-old, entry-else, length-change}
+use Rattle.sv_model.proofs.Registers.{entry-new, length-change}
 use Rattle.sv_imm.specs.Changes as lists
 use Rattle.sv_version.specs.Changes as versions
 

@@ -2,6 +2,10 @@
 #![tactic(auto)]
 
 mod follow;
+#[cfg(test)]
+mod list_tests;
 mod many;
 #[cfg(test)]
 mod tests;
+#[cfg(test)]
+mod version_tests;

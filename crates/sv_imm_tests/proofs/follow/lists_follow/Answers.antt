@@ -1,6 +1,4 @@
-use Rattle.std.proofs.Common.{◌≡◌, ◌∙◌, ◌<◌, length, ap, sym, arith, List}
-use Rattle.std.proofs.lemmas.Option.{same_Some}
-use Rattle.sv_model.specs.declared.records.MemtableList.{MemtableList}
+use Rattle.std.proofs.Common.{length, ap, arith}
 use Rattle.sv_imm_tests.proofs.Live.{list-length, list_made, list_empty}
 use Rattle.sv_imm_tests.proofs.follow.lists_follow.Goals as goal
 

@@ -1,4 +1,4 @@
-use Rattle.std.proofs.Common.{◌≤◌, ◌<◌, length, arith}
+use Rattle.std.proofs.Common.{arith}
 use Rattle.sv_imm_tests.proofs.Live.{version-length, version_made, version-length_kept}
 use Rattle.sv_imm_tests.proofs.many.many_versions.Goals as goal
 
