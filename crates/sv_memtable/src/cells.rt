@@ -1,8 +1,11 @@
 // A memtable that is open to writes.
-ghost use Rattle.std.specs.Prelude.{◌≡◌, ◌<◌, ◌≤◌, ◌++◌, ◌∷◌, [], OnOk, OnErr, length};
+ghost use Rattle.std.specs.Prelude.{◌≡◌, ◌<◌, ◌≤◌, ◌++◌, ◌∷◌, [], false, IfOk, OnOk, OnErr, length};
 ghost use Rattle.std.specs.Option.{option_copied};
+ghost use Rattle.sv_model.specs.Flat.{IsFlatOf};
 ghost use Rattle.sv_model.specs.Journal.{newest_op};
+ghost use Rattle.sv_memtable.specs.Newest.{IsIndexed};
 
+use crate::frozen::Frozen;
 use std::alloc::Global;
 use std::collections::BTreeMap;
 use std::marker::Model;
@@ -31,6 +34,24 @@ impl Model for MemCell {
     ghost use Rattle.sv_memtable.specs.Newest.{IsIndexed};
 
     ghost invariant = { λ c. IsIndexed c.rows.items c.newest };
+}
+
+/// Copies of the rows to which the map leads, in the order of its keys.
+fn newest_rows(
+    alloc: Global,
+    rows: &[Row],
+    newest: &BTreeMap<Key, u32>,
+) -> Result<Vec<Row>, OutOfMemory>
+    requires { IsIndexed rows.now newest.now }
+    ensures { IfOk result (λ copies. IsFlatOf rows.now false copies.items) }
+{
+    let mut copies = Vec::with_capacity(alloc, newest.len())?;
+    for at in newest.values() {
+        if let Some(row) = rows.get(*at as usize) {
+            copies.push(row.clone()?)?;
+        }
+    }
+    Ok(copies)
 }
 
 impl MemCell {
@@ -90,5 +111,14 @@ impl MemCell {
                 Some(row) => Some(&row.op),
             },
         }
+    }
+
+    /// The newest row of each key, ascending by key, of the rows so far. Copies only these; the memtable stays open.
+    pub fn freeze(&self) -> Result<Frozen, OutOfMemory>
+        ensures id { IfOk result (λ f. f.id ≡ self.now.id) }
+        ensures rows { IfOk result (λ f. IsFlatOf self.now.rows false f.rows) }
+    {
+        let rows = newest_rows(self.alloc, self.rows.as_slice(), &self.newest)?;
+        Ok(Frozen::of(self.id, rows))
     }
 }

@@ -2,5 +2,7 @@
 #![tactic(auto)]
 
 mod cells;
+mod frozen;
 
 pub use cells::{GREATEST_ROWS, MemCell};
+pub use frozen::Frozen;

@@ -103,3 +103,34 @@ fn keeps_every_record(rt: HostRuntime) {
     assert!(rt; registry.descriptor(SvSerial(1)) == Some(&descriptor(5, 6, 7)));
     assert!(rt; !registry.is_live(pack(1, 1)) && registry.is_live(pack(1, 0)));
 }
+
+// The pack of a SuperVersion that was made and taken back.
+fn taken_back(registry: &mut Registry, named: Descriptor) -> Result<Pack, Refusal> {
+    let made = registry.make(named)?;
+    registry.take_back();
+    Ok(made)
+}
+
+#[test]
+fn gives_the_serial_again(rt: HostRuntime) {
+    let mut registry = Registry::new(rt.alloc());
+    for serial in 1..=3u32 {
+        let place = serial as u8 - 1;
+        assert_eq!(rt;
+            taken_back(&mut registry, descriptor(50, 60, 70)),
+            Ok(pack(serial, place))
+        );
+        assert!(rt; !registry.is_live(pack(serial, place)) && !registry.has_active(MemId(50)));
+        assert!(rt; registry.record(SvSerial(serial)).is_none());
+        assert_eq!(rt;
+            registry.make(descriptor(serial, 2, 3)),
+            Ok(pack(serial, place))
+        );
+        assert!(rt; registry.is_live(pack(serial, place)) && registry.has_active(MemId(serial)));
+        let named = registry.descriptor(SvSerial(serial));
+        assert!(rt; named == Some(&descriptor(serial, 2, 3)));
+    }
+    let last = registry.record(SvSerial(3));
+    assert!(rt; matches!(last, Some(record) if record.place == 2 && record.live));
+    assert!(rt; registry.descriptor(SvSerial(4)).is_none());
+}

@@ -6,3 +6,4 @@ pub mod Running
 pub mod Sending
 pub mod Stepping
 pub mod Telling
+mod WorkedRows

@@ -18,4 +18,4 @@ pub use outcomes::{Done, Ran, Status};
 pub use plain::{Got, Plain};
 pub use standard::{StdSink, StdSource};
 pub use streams::{Failed, Sink, Source};
-pub use top::run;
+pub use top::{run, run_without_memory};

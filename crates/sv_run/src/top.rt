@@ -169,3 +169,13 @@ pub fn run<S: Source, K: Sink>(alloc: Global, words: &[String], source: &mut S, 
     let ran = outcome(alloc, words, source);
     tell(alloc, ran, sink)
 }
+
+/// For a caller that had no memory for the words: writes `no memory`, and answers so. No lane ran, and nothing
+/// was read.
+pub fn run_without_memory<K: Sink>(sink: &mut K) -> Ran
+    ensures ends { (words : List (List ℕ)) (left : Option (List ℕ)) (faults : ℕ) → Ends words left faults faults
+        (K.written sink.old) (K.written sink.new) (K.faults sink.old) (K.faults sink.new) result.done result.status }
+    ensures writes { K.faults sink.old ≤ K.faults sink.new }
+{
+    send(without_done(Status::OutOfMemory), no_memory_text(), sink)
+}

@@ -1,0 +1,107 @@
+// What is written where nothing runs.
+use crate::runs::{EMPTY_REPORT, expect_run, expect_text, run_over, sink_of, source_of, words_of};
+use std::alloc::Global;
+use std::process::Abort;
+use std::test::Fail;
+use sv_run::{Status, run};
+use sv_script::{BadKind, BadLine};
+
+// Each line is bad for the word beside it.
+const BAD_LINES: [(&str, &str); 24] = [
+    ("33 hold", "lane"),
+    ("0 get default a", "lane"),
+    ("x get default a", "lane"),
+    ("phase 2", "lane"),
+    ("1", "command"),
+    ("1 frob x", "command"),
+    ("1 PUT default a 1", "command"),
+    ("1 hold 2", "count"),
+    ("1 put default a", "count"),
+    ("1 get default a 1", "count"),
+    ("1 put Cold a 1", "name"),
+    ("1 get a-b a", "name"),
+    ("1 put cold a%4 1", "item"),
+    ("1 put default a 1%", "item"),
+    ("1 unpin -1", "number"),
+    ("1 getp x a", "number"),
+    ("1 set cold rows 5", "option"),
+    ("1 flush default", "unbuilt"),
+    ("1 create cold", "unbuilt"),
+    ("1 hold", "unbuilt"),
+    ("1 rest", "unbuilt"),
+    ("1 getp 0 a", "unbuilt"),
+    ("2 put default a 1", "unbuilt"),
+    ("32 get default a", "unbuilt"),
+];
+
+#[test]
+fn names_the_first_bad_line(rt: HostRuntime) -> Result<(), Fail> {
+    let alloc = rt.alloc();
+    for (line, word) in BAD_LINES {
+        let alone = format!(in alloc; "{line}\n")?;
+        let due = format!(in alloc; "bad script line 1: {word}\n")?;
+        expect_run(&rt, alloc, alone.as_bytes(), 64, 3, due.as_str())?;
+        let after = format!(in alloc; "1 put default a 1\n{line}\n1 frob x\n")?;
+        let due = format!(in alloc; "bad script line 2: {word}\n")?;
+        expect_run(&rt, alloc, after.as_bytes(), 64, 3, due.as_str())?;
+    }
+    Ok(())
+}
+
+const USAGE: &str = "usage: svrun run [--dir PATH]\n       svrun trial N\n       svrun --help\n";
+
+// These words must be refused, with nothing read.
+fn expect_usage(rt: &impl Abort, alloc: Global, words: &[String]) -> Result<(), Fail> {
+    let mut source = source_of(rt, alloc, b"1 frob x", 64, &[])?;
+    let mut sink = sink_of(rt, alloc, 64, &[])?;
+    let ran = run(alloc, words, &mut source, &mut sink);
+    assert_eq!(rt; ran.status, Status::Usage);
+    assert!(rt; ran.done.is_none());
+    expect_text(rt, &sink, USAGE.as_bytes());
+    let mut later = sink_of(rt, alloc, 64, &[])?;
+    let ran = run_over(alloc, &mut source, &mut later)?;
+    let bad = BadLine {
+        line: 1,
+        kind: BadKind::Command,
+    };
+    assert_eq!(rt; ran.status, Status::BadScript(bad));
+    expect_text(rt, &later, b"bad script line 1: command\n");
+    Ok(())
+}
+
+#[test]
+fn takes_the_word_run_alone(rt: HostRuntime) -> Result<(), Fail> {
+    let alloc = rt.alloc();
+    expect_usage(&rt, alloc, &[])?;
+    for line in [
+        "walk",
+        "run,run",
+        "run,--dir",
+        "--help",
+        "trial,0",
+        "Run",
+        "run ",
+        "ru",
+        "",
+        "run,",
+    ] {
+        let words = words_of(alloc, line)?;
+        expect_usage(&rt, alloc, words.as_slice())?;
+    }
+    expect_run(&rt, alloc, b"", 64, 0, EMPTY_REPORT)
+}
+
+#[test]
+fn ends_with_the_number_of_its_status(rt: HostRuntime) {
+    let bad = BadLine {
+        line: 2,
+        kind: BadKind::Unbuilt,
+    };
+    assert_eq!(rt; Status::Ok.exit_code(), 0);
+    assert_eq!(rt; Status::Usage.exit_code(), 2);
+    assert_eq!(rt; Status::BadScript(bad).exit_code(), 3);
+    assert_eq!(rt; Status::ScriptTooLong.exit_code(), 4);
+    assert_eq!(rt; Status::ReadFault.exit_code(), 5);
+    assert_eq!(rt; Status::WriteFault.exit_code(), 6);
+    assert_eq!(rt; Status::OutOfMemory.exit_code(), 8);
+}
