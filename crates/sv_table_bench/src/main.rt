@@ -9,6 +9,7 @@ mod samples;
 use faults::Fault;
 use std::alloc::AllocError;
 use std::env;
+use std::io::ErrorKind;
 use std::process::ExitCode;
 use std::rt::Clock;
 
@@ -21,11 +22,13 @@ struct Task {
     quiet: bool,
 }
 
-/// The words after the program's name; none where they are not all text, which are no words that it takes.
+/// The words after the program's name. Where they are not all text there are none, which the program does not take.
 fn words(rt: &HostRuntime) -> Result<Vec<String>, AllocError> {
     let mut words = Vec::new(rt.alloc());
-    let Ok(args) = env::args(rt) else {
-        return Ok(words);
+    let args = match env::args(rt) {
+        Ok(args) => args,
+        Err(error) if error.kind() == ErrorKind::OutOfMemory => return Err(AllocError),
+        Err(_) => return Ok(words),
     };
     for word in args.skip(1) {
         words.push(word)?;
