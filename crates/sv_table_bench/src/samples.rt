@@ -1,0 +1,67 @@
+// Tables to measure with, and a check of them.
+use crate::faults::Fault;
+use std::alloc::{AllocError, Global};
+use sv_model::Op;
+use sv_table::{Table, decode, encode};
+
+/// A prime above any number of rows, so that leaps of it come to each row once.
+const LEAP: usize = 2_654_435_761;
+
+const VALUE: [u8; 16] = *b"sixteen bytes...";
+
+/// Eight digits, so that keys ascend as their numbers do.
+fn digits(number: u32) -> [u8; 8] {
+    let mut digits = [b'0'; 8];
+    let mut left = number;
+    for digit in digits.iter_mut().rev() {
+        *digit = b'0' + (left % 10) as u8;
+        left /= 10;
+    }
+    digits
+}
+
+/// The bytes of a table that covers the writes `from + 1` to `from + rows`: a put under each of as many keys, the
+/// first of which is the number `first`.
+pub fn text(alloc: Global, from: u64, first: u32, rows: u32) -> Result<Vec<u8>, AllocError> {
+    let mut text = Vec::new(alloc);
+    let to = from.saturating_add(u64::from(rows));
+    text.extend_from_slice(b"SVTABLE1")?;
+    text.extend_from_slice(&from.to_le_bytes())?;
+    text.extend_from_slice(&to.to_le_bytes())?;
+    text.push(0)?;
+    text.extend_from_slice(&rows.to_le_bytes())?;
+    for row in 0..rows {
+        text.push(8)?;
+        text.extend_from_slice(&digits(first.saturating_add(row)))?;
+        text.extend_from_slice(&[1, 16, 0])?;
+        text.extend_from_slice(&VALUE)?;
+    }
+    Ok(text)
+}
+
+/// How many of the table's own keys are found, each with a value. Each key is looked up once, those of rows far apart
+/// one after the other, as a store's reads come.
+pub fn found(table: &Table, first: usize) -> u64 {
+    let rows = table.rows.as_slice();
+    let mut found: u64 = 0;
+    let mut at = first;
+    for _ in 0..rows.len() {
+        at = at.wrapping_add(LEAP) % rows.len().max(1);
+        if let Some(row) = rows.get(at)
+            && matches!(table.find(&row.key), Some(Op::Put(_)))
+        {
+            found = found.saturating_add(1);
+        }
+    }
+    found
+}
+
+/// The bytes are decoded, encoding gives them again, and each key is found.
+pub fn check(alloc: Global, text: &[u8]) -> Result<(), Fault> {
+    let table = decode(alloc, text)?;
+    let again = encode(alloc, &table)?;
+    if again.as_slice() != text || found(&table, 0) != table.rows.as_slice().len() as u64 {
+        return Err(Fault::Wrong);
+    }
+    Ok(())
+}
