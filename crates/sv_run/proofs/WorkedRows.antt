@@ -41,21 +41,27 @@ fits-put : ReplyFits books 0 (take 0 four) (command.Put name a (codes "1")) (rep
 fits-put = (refl, record { later = omega arith; written = record { lane_is = refl; key_is = refl; op_is = refl } })
 
 fits-found : ReplyFits books 0 (take 1 four) (command.Get name a) (reply.Found (codes "1") 1 1)
-fits-found = (refl, record {
-  later = omega arith;
-  newer = omega arith;
-  looks = record { serves = record { family_is = refl; begins = omega arith; ends = omega arith }; found_is = refl }
-})
+fits-found = (
+  refl,
+  record {
+    later = omega arith;
+    newer = omega arith;
+    looks = record { serves = record { family_is = refl; begins = omega arith; ends = omega arith }; found_is = refl };
+  },
+)
 
 fits-deleted : ReplyFits books 0 (take 2 four) (command.Delete name a) (reply.Delete 2)
 fits-deleted = (refl, record { later = omega arith; written = record { lane_is = refl; key_is = refl; op_is = refl } })
 
 fits-absent : ReplyFits books 0 (take 3 four) (command.Get name a) (reply.Absent 2 1)
-fits-absent = (refl, record {
-  later = omega arith;
-  newer = omega arith;
-  looks = record { serves = record { family_is = refl; begins = omega arith; ends = omega arith }; found_is = refl }
-})
+fits-absent = (
+  refl,
+  record {
+    later = omega arith;
+    newer = omega arith;
+    looks = record { serves = record { family_is = refl; begins = omega arith; ends = omega arith }; found_is = refl };
+  },
+)
 
 -- a stale value, a cut too far and a number out of turn do not
 stale : ReplyFits books 0 (take 3 four) (command.Get name a) (reply.Found (codes "1") 2 1) → ⊥
