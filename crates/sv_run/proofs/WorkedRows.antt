@@ -1,15 +1,15 @@
 -- The definitions tried on scripts whose answers are known: a put, a get, a delete and a get of one key, and keys and
 -- values at the ends of their lengths.
-use Rattle.std.proofs.Common.{◌≡◌, ◌≤◌, ◌<◌, ℕ, zero, suc, true, List, [], ◌∷◌, Option, Some, None, refl, subst, arith, take, replicate, length}
-use Rattle.std.specs.Prelude.{slice_get, codes}
+use Rattle.std.proofs.Common.{◌≡◌, ℕ, true, List, [], ◌∷◌, Some, None, refl, arith, take, replicate}
+use Rattle.std.specs.Prelude.{codes}
 use Rattle.sv_model.specs.declared.Op.TheVariants as op
 use Rattle.sv_model.specs.declared.Refusal.TheVariants as refusal
 use Rattle.sv_model.specs.Books.{Books}
 use Rattle.sv_model.specs.Journal.{look}
 use Rattle.sv_script.specs.declared.Command.TheVariants as command
 use Rattle.sv_script.specs.declared.Reply.TheVariants as reply
-use Rattle.sv_script.specs.Answered.{Answered, accepted}
-use Rattle.sv_script.specs.ReplyLaw.{due, ReplyFits, RepliesFit, GetsSeeAll}
+use Rattle.sv_script.specs.Answered.{Answered}
+use Rattle.sv_script.specs.ReplyLaw.{due, ReplyFits}
 use Rattle.sv_run.specs.FirstBooks.{first_books, first_write}
 
 abbrev name : List ℕ

@@ -22,3 +22,9 @@ pub record MovesPiece (left now : Option (List ℕ)) (before after : List ℕ) (
   pub put : after ≡ before ++ piece
   pub count : length piece ≡ n
   pub end : n ≡ 0 → IsAtEnd now
+
+-- at most so many bytes were taken from the source, where it tells them
+pub record TakesAtMost (n : ℕ) (left now : Option (List ℕ)) : Type 0 where
+  pub bytes : List ℕ
+  pub took : Consumes left now bytes
+  pub few : length bytes ≤ n

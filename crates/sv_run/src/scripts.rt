@@ -3,6 +3,7 @@ ghost use Rattle.std.specs.Prelude.{◌≡◌, ◌≤◌, ℕ, List, Option, IfO
 ghost use Rattle.sv_script.specs.ScriptLaws.{IsWellFormed};
 ghost use Rattle.sv_run.specs.Ends.{Comes, IsScript};
 ghost use Rattle.sv_run.specs.Stops.{Stops};
+ghost use Rattle.sv_run.specs.Transfers.{TakesAtMost};
 
 use crate::outcomes::Status;
 use crate::stops::ReadStop;
@@ -39,6 +40,7 @@ pub fn read_script<S: Source>(alloc: Global, source: &mut S) -> Result<Script, S
     ensures script { IfOk result (λ script. IfSome (S.left source.old) (IsScript script)) }
     ensures well_formed { IfOk result (λ script. IsWellFormed script) }
     ensures err { IfErr result (Comes (S.left source.old) (S.faults source.old) (S.faults source.new) None) }
+    ensures took { TakesAtMost 16777217 (S.left source.old) (S.left source.new) }
     ensures later { S.faults source.old ≤ S.faults source.new }
 {
     match read_all(alloc, source) {

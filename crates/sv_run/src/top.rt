@@ -4,6 +4,7 @@ ghost use Rattle.sv_model.specs.Summaries.{summary_of};
 ghost use Rattle.sv_script.specs.ReportTexts.{report_text};
 ghost use Rattle.sv_script.specs.ScriptLaws.{IsWellFormed};
 ghost use Rattle.sv_run.specs.Ends.{AreRun, Completes, Ends, Follows, HasRun, due_text};
+ghost use Rattle.sv_run.specs.Transfers.{TakesAtMost};
 ghost use Rattle.sv_run.specs.declared.outcomes.Status.TheVariants as status;
 
 use crate::outcomes::{Done, Ran, Status};
@@ -72,6 +73,7 @@ fn without_done(status: Status) -> Ran
 // All but the writing.
 fn outcome<S: Source>(alloc: Global, words: &[String], source: &mut S) -> Ran
     ensures follows { Follows (map string_bytes words.now) (S.left source.old) (S.faults source.old) (S.faults source.new) result.done result.status }
+    ensures took { TakesAtMost 16777217 (S.left source.old) (S.left source.new) }
     ensures later { S.faults source.old ≤ S.faults source.new }
 {
     if !are_run(words) {
@@ -163,6 +165,7 @@ pub fn run<S: Source, K: Sink>(alloc: Global, words: &[String], source: &mut S, 
     // A script is answered where nothing fails.
     ensures complete { Completes (map string_bytes words.now) (S.left source.old) (S.faults source.old) (S.faults source.new)
         (K.faults sink.old) (K.faults sink.new) result.status }
+    ensures took { TakesAtMost 16777217 (S.left source.old) (S.left source.new) }
     ensures reads { S.faults source.old ≤ S.faults source.new }
     ensures writes { K.faults sink.old ≤ K.faults sink.new }
 {

@@ -3,7 +3,7 @@ ghost use Rattle.std.specs.Prelude.{◌≡◌, ◌<◌, ◌≤◌, IfOk, IfErr, 
 ghost use Rattle.std.specs.Io.KnownBytes.{Appends};
 ghost use Rattle.sv_model.specs.Faults.{HasCause};
 ghost use Rattle.sv_run.specs.Stops.{Stops};
-ghost use Rattle.sv_run.specs.Transfers.{AppendsPart, MovesPiece, ReadsWhole};
+ghost use Rattle.sv_run.specs.Transfers.{AppendsPart, MovesPiece, ReadsWhole, TakesAtMost};
 
 use crate::stops::ReadStop;
 use crate::streams::{Failed, Sink, Source};
@@ -31,6 +31,7 @@ fn read_piece<S: Source>(
     ensures moved { IfOk result (MovesPiece (S.left source.old) (S.left source.new) bytes.old.items bytes.new.items) }
     ensures count { IfOk result (λ n. n ≤ vec_len buffer.old) }
     ensures room { vec_len buffer.new ≡ vec_len buffer.old }
+    ensures took { TakesAtMost (vec_len buffer.old) (S.left source.old) (S.left source.new) }
     ensures stopped { IfErr result (Stops (S.left source.old) (S.faults source.old) (S.faults source.new)) }
     ensures later { S.faults source.old ≤ S.faults source.new }
 {
@@ -46,6 +47,7 @@ fn read_piece<S: Source>(
 /// Reads the source to its end, or until it has given one byte more than a script may have.
 pub fn read_all<S: Source>(alloc: Global, source: &mut S) -> Result<Vec<u8>, ReadStop>
     ensures whole { IfOk result (λ bytes. ReadsWhole (S.left source.old) bytes.items) }
+    ensures took { TakesAtMost 16777217 (S.left source.old) (S.left source.new) }
     ensures stopped { IfErr result (Stops (S.left source.old) (S.faults source.old) (S.faults source.new)) }
     ensures later { S.faults source.old ≤ S.faults source.new }
 {
