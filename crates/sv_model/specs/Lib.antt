@@ -5,6 +5,7 @@ pub mod Faults
 pub mod Flat
 pub mod Journal
 pub mod Lists
+pub mod Moments
 pub mod Named
 pub mod Names
 pub mod Places

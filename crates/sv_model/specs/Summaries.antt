@@ -1,15 +1,16 @@
 -- The numbers of a report, counted in the registers.
-use Rattle.std.specs.Prelude.{ℕ, ◌+◌, Bool, true, false, cond, not, ◌&&◌, List, [], ◌∷◌, is_some, is_none, length, map, count_by}
+use Rattle.std.specs.Prelude.{ℕ, ◌+◌, Bool, true, false, cond, not, ◌&&◌, List, [], ◌∷◌, is_some, is_none, length, map, filter, count_by}
 use Rattle.sv_model.specs.declared.writes.Write.{Write}
 use Rattle.sv_model.specs.declared.records.Version.{Version}
 use Rattle.sv_model.specs.declared.records.Family.{Family}
 use Rattle.sv_model.specs.declared.records.Top.{Top}
 use Rattle.sv_model.specs.declared.records.FileStatus.{FileStatus}
-use Rattle.sv_model.specs.declared.records.FileStatus.TheVariants.{Gone}
+use Rattle.sv_model.specs.declared.records.RegisteredFile.{RegisteredFile}
+use Rattle.sv_model.specs.declared.records.FileStatus.TheVariants.{Obsolete, Gone}
 use Rattle.sv_model.specs.declared.reports.Summary.{Summary}
 use Rattle.sv_model.specs.declared.reports.FamilyLine.{FamilyLine}
 use Rattle.sv_model.specs.declared.reports.Totals.{Totals}
-use Rattle.sv_model.specs.declared.reports.End.TheVariants.{Clean}
+use Rattle.sv_model.specs.declared.reports.End.{End}
 use Rattle.sv_model.specs.Journal.{of_family}
 use Rattle.sv_model.specs.Books.{Books, files_of}
 
@@ -33,6 +34,14 @@ abbrev pub is_gone : FileStatus → Bool
 is_gone Gone = true
 is_gone status = false
 
+abbrev pub is_obsolete : FileStatus → Bool
+is_obsolete Obsolete = true
+is_obsolete status = false
+
+-- the numbers that are still to be removed, in the order in which they were registered
+abbrev pub obsolete_of : List RegisteredFile → List ℕ
+obsolete_of numbers = map (λ f. f.number) (filter (λ f. is_obsolete f.status) numbers)
+
 -- what was made
 abbrev pub made_of : Books → Totals
 made_of books = record {
@@ -49,14 +58,14 @@ gone_of books = record {
   files = count_by (λ f. is_some f.family && is_gone f.status) books.files.numbers;
 }
 
--- The summary of books after a clean close.
-abbrev pub summary_of : Books → Summary
-summary_of books = record {
+-- The summary of books after a close that ended so.
+abbrev pub summary_of : End → Books → Summary
+summary_of end books = record {
   families = family_lines books.journal books.versions 0 books.families books.tops;
   made = made_of books;
   gone = gone_of books;
   strays_seen = count_by (λ f. is_none f.family) books.files.numbers;
   strays_gone = count_by (λ f. is_none f.family && is_gone f.status) books.files.numbers;
-  end = Clean;
-  left = [];
+  end = end;
+  left = obsolete_of books.files.numbers;
 }
