@@ -33,6 +33,7 @@ built : (command : Command) → is_built command ≡ true → IsBuilt command
 built (commands.Put family key value) e = tt
 built (commands.Delete family key) e = tt
 built (commands.Get family key) e = tt
+built (commands.Flush family) e = tt
 built _ e = absurd (cc)
 
 guarded : {A : Type 0} (b : Bool) (r : Result A BadKind) (y : A) (kind : BadKind) → cond {A = Result A BadKind} b r (Err kind) ≡ Ok y → (b ≡ true) × (r ≡ Ok y)

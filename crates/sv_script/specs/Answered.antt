@@ -3,7 +3,9 @@ use Rattle.std.specs.Prelude.{ℕ, cond, nat_eq, max, List, [], ◌∷◌, Optio
 use Rattle.std.specs.List.{flat_map}
 use Rattle.std.specs.Cmp.Lexicographic.{pointwise}
 use Rattle.sv_model.specs.declared.Op.TheVariants as op
+use Rattle.sv_model.specs.declared.Refusal.TheVariants as refusal
 use Rattle.sv_model.specs.Journal.{Change}
+use Rattle.sv_model.specs.Lists.{total}
 use Rattle.sv_script.specs.declared.scripts.Line.{Line}
 use Rattle.sv_script.specs.declared.commands.Command.{Command}
 use Rattle.sv_script.specs.declared.commands.Command.TheVariants as command
@@ -49,6 +51,16 @@ serial_by (reply.Found value cut sv) = sv
 serial_by (reply.Absent cut sv) = sv
 serial_by reply = 0
 
+-- the last write that a flush covers
+abbrev pub flushed_by : Reply → ℕ
+flushed_by (reply.Flush number from to) = to
+flushed_by reply = 0
+
+-- the file number that a flush shows
+abbrev pub file_by : Reply → ℕ
+file_by (reply.Flush number from to) = number
+file_by reply = 0
+
 -- the greatest write number or cut that the lane was shown
 abbrev pub seen : List Answered → ℕ
 seen [] = 0
@@ -58,3 +70,22 @@ seen (a ∷ all) = max (shown_by a.reply) (seen all)
 abbrev pub newest_serial : List Answered → ℕ
 newest_serial [] = 0
 newest_serial (a ∷ all) = max (serial_by a.reply) (newest_serial all)
+
+-- how far the flushes reach that the lane was shown
+abbrev pub flushed : List Answered → ℕ
+flushed [] = 0
+flushed (a ∷ all) = max (flushed_by a.reply) (flushed all)
+
+-- the greatest file number that the lane was shown
+abbrev pub newest_file : List Answered → ℕ
+newest_file [] = 0
+newest_file (a ∷ all) = max (file_by a.reply) (newest_file all)
+
+-- 1 where the reply says that the directory failed
+abbrev pub fault_by : Reply → ℕ
+fault_by (reply.Refused (refusal.DirFault number)) = 1
+fault_by reply = 0
+
+-- how often the lane was told that the directory failed
+abbrev pub faults_told : List Answered → ℕ
+faults_told all = total (λ a. fault_by a.reply) all

@@ -23,7 +23,7 @@ fn is_built(command: &Command) -> bool
 {
     matches!(
         command,
-        Command::Put { .. } | Command::Delete { .. } | Command::Get { .. }
+        Command::Put { .. } | Command::Delete { .. } | Command::Get { .. } | Command::Flush(_)
     )
 }
 
