@@ -1,5 +1,5 @@
 -- What the calls of a book of file numbers give and leave.
-use Rattle.std.specs.Prelude.{◌≡◌, ◌+◌, ◌≤◌, ◌==◌, ◌||◌, ℕ, Bool, cond, nat_le, min, List, [], ◌∷◌, ◌++◌, Option, Some, None, slice_get, slice_set}
+use Rattle.std.specs.Prelude.{◌≡◌, ◌+◌, ◌≤◌, ◌==◌, ◌||◌, ℕ, Bool, true, false, cond, nat_le, min, List, [], ◌∷◌, ◌++◌, Option, Some, None, slice_get, slice_set}
 use Rattle.sv_model.specs.declared.records.RegisteredFile.{RegisteredFile}
 use Rattle.sv_model.specs.declared.records.FileStatus.{FileStatus}
 use Rattle.sv_model.specs.declared.records.FileStatus.TheVariants.{Pending, Live, Obsolete}
@@ -59,6 +59,14 @@ pub record IsSettled (number : ℕ) (live : Bool) (old new : FileRegister) : Typ
   pub of : numbers.it.family ≡ Some family
   pub was : slice_get old.captured family ≡ Some (Some number)
   pub rest : new ≡ record old { numbers = new.numbers; captured = slice_set old.captured family None }
+
+abbrev pub is_obsolete_status : FileStatus → Bool
+is_obsolete_status Obsolete = true
+is_obsolete_status status = false
+
+-- the number is Obsolete
+abbrev pub is_obsolete : RegisteredFile → Bool
+is_obsolete f = is_obsolete_status f.status
 
 -- the least Obsolete number that is not below `from`
 abbrev pub IsLeastObsolete : List RegisteredFile → ℕ → Option ℕ → Type 0

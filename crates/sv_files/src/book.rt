@@ -1,17 +1,19 @@
 // The book of file numbers.
-ghost use Rattle.std.specs.Prelude.{◌≡◌, ◌≤◌, ◌<◌, ◌+◌, [], ◌∷◌, ◌++◌, ℕ, Some, None, IsSome, IfSome, IfOk, OnErr, slice_get, replicate};
+ghost use Rattle.std.specs.Prelude.{◌≡◌, ◌≤◌, ◌<◌, ◌+◌, [], ◌∷◌, ◌++◌, ℕ, Some, None, IsSome, IfSome, IfOk, OnErr, slice_get, replicate, map, count_by, is_some, is_none, ◌&&◌};
+ghost use Rattle.std.specs.List.{filter};
 ghost use Rattle.std.specs.Ordering.{nat_cmp};
 ghost use Rattle.std.specs.BTreeMap.{get};
 ghost use Rattle.sv_model.specs.declared.records.FileStatus.TheVariants.{Pending, Live, Obsolete, Gone};
+ghost use Rattle.sv_model.specs.Summaries.{is_gone};
 ghost use Rattle.sv_model.specs.Refusals.{Refuses};
-ghost use Rattle.sv_files.specs.Calls.{IsRegistered, IsLeastObsolete, IsSettled, MarksOnly, capture_fault, captured_for, least_captured, settled_status};
+ghost use Rattle.sv_files.specs.Calls.{IsRegistered, IsLeastObsolete, IsSettled, MarksOnly, capture_fault, captured_for, is_obsolete, least_captured, settled_status};
 ghost use Rattle.sv_files.specs.Laws.{FileLaws};
 
-use crate::obsolete::first_obsolete;
+use crate::obsolete::{first_obsolete, is_obsolete};
 use std::alloc::Global;
 use std::collections::BTreeMap;
 use std::marker::Model;
-use sv_model::{FamilyId, FileNumber, FileStatus, Refusal, RegisteredFile};
+use sv_model::{FamilyId, FileNumber, FileStatus, OutOfMemory, Refusal, RegisteredFile};
 
 /// How many numbers are captured at most.
 pub const GREATEST_CAPTURED: usize = 1_048_576;
@@ -156,6 +158,62 @@ impl FileBook {
     {
         least(&self.captured)
     }
+
+    /// How many numbers were ever captured. Takes no memory.
+    pub fn made(&self) -> u64
+        ensures { result ≡ count_by (λ f. is_some f.family) self.now.numbers }
+    {
+        self.made as u64
+    }
+
+    /// How many of the captured numbers are Gone. Looks at each number. Takes no memory.
+    pub fn gone(&self) -> u64
+        ensures { result ≡ count_by (λ f. is_some f.family && is_gone f.status) self.now.numbers }
+    {
+        self.numbers
+            .iter()
+            .filter(|file| file.family.is_some() && is_gone(file))
+            .count() as u64
+    }
+
+    /// How many numbers were registered as strays. Looks at each number. Takes no memory.
+    pub fn strays_seen(&self) -> u64
+        ensures { result ≡ count_by (λ f. is_none f.family) self.now.numbers }
+    {
+        self.numbers
+            .iter()
+            .filter(|file| file.family.is_none())
+            .count() as u64
+    }
+
+    /// How many of the strays are Gone. Looks at each number. Takes no memory.
+    pub fn strays_gone(&self) -> u64
+        ensures { result ≡ count_by (λ f. is_none f.family && is_gone f.status) self.now.numbers }
+    {
+        self.numbers
+            .iter()
+            .filter(|file| file.family.is_none() && is_gone(file))
+            .count() as u64
+    }
+
+    /// The Obsolete numbers, in the order in which they were registered. Looks at each number.
+    pub fn left(&self, alloc: Global) -> Result<Vec<FileNumber>, OutOfMemory>
+        ensures { IfOk result (λ left. left.items ≡ map (λ f. f.number) (filter is_obsolete self.now.numbers)) }
+    {
+        let left = self
+            .numbers
+            .iter()
+            .filter(|file| is_obsolete(file))
+            .map(|file| file.number)
+            .collect(alloc)?;
+        Ok(left)
+    }
+}
+
+fn is_gone(file: &RegisteredFile) -> bool
+    ensures { result ≡ is_gone file.now.status }
+{
+    matches!(file.status, FileStatus::Gone)
 }
 
 fn pending(number: u64, family: &FamilyId) -> RegisteredFile

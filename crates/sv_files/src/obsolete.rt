@@ -3,7 +3,7 @@ ghost use Rattle.std.specs.Prelude.{◌≡◌, ◌≤◌, ◌<◌, ◌^◌, ◌�
 ghost use Rattle.std.specs.Ordering.{nat_cmp};
 ghost use Rattle.std.specs.BTreeMap.{get};
 ghost use Rattle.sv_model.specs.declared.records.FileStatus.TheVariants.{Obsolete};
-ghost use Rattle.sv_files.specs.Calls.{IsLeastObsolete};
+ghost use Rattle.sv_files.specs.Calls.{IsLeastObsolete, is_obsolete};
 ghost use Rattle.sv_files.specs.Kept.{AreNumbered, KeepsPositions};
 
 use std::collections::BTreeMap;
@@ -43,8 +43,10 @@ fn first_from(kept: &BTreeMap<u64, usize>, low: u64) -> Option<(u64, usize)>
     }
 }
 
-fn is_obsolete(file: &RegisteredFile) -> bool
-    ensures { IsTrue result ↔ (file.now.status ≡ Obsolete) }
+/// Whether the number is Obsolete.
+pub fn is_obsolete(file: &RegisteredFile) -> bool
+    ensures value { result ≡ is_obsolete file.now }
+    ensures means { IsTrue result ↔ (file.now.status ≡ Obsolete) }
 {
     matches!(file.status, FileStatus::Obsolete)
 }

@@ -117,6 +117,9 @@ impl MemCell {
     pub fn freeze(&self) -> Result<Frozen, OutOfMemory>
         ensures id { IfOk result (λ f. f.id ≡ self.now.id) }
         ensures rows { IfOk result (λ f. IsFlatOf self.now.rows false f.rows) }
+        // No more rows than were added, and some where one was.
+        ensures few { IfOk result (λ f. length f.rows ≤ length self.now.rows) }
+        ensures some { IfOk result (λ f. 1 ≤ length self.now.rows → 1 ≤ length f.rows) }
     {
         let rows = newest_rows(self.alloc, self.rows.as_slice(), &self.newest)?;
         Ok(Frozen::of(self.id, rows))

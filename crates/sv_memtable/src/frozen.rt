@@ -1,10 +1,11 @@
 // A memtable that takes no more writes.
-ghost use Rattle.std.specs.Prelude.{◌≡◌};
+ghost use Rattle.std.specs.Prelude.{◌≡◌, IfOk};
 ghost use Rattle.std.specs.Option.{option_copied, option_map};
 ghost use Rattle.sv_model.specs.Flat.{Ascends, row_at};
 
+use std::alloc::Global;
 use std::marker::Model;
-use sv_model::{Key, MemId, Op, Row, find_row};
+use sv_model::{Key, MemId, Op, OutOfMemory, Row, find_row};
 
 /// A memtable that takes no more writes: the newest row of each key, ascending by key.
 #[derive(Drop)]
@@ -47,6 +48,13 @@ impl Frozen {
         ensures ascends { Ascends self.now.rows }
     {
         self.rows.as_slice()
+    }
+
+    /// Copies of its rows.
+    pub fn to_rows(&self, alloc: Global) -> Result<Vec<Row>, OutOfMemory>
+        ensures { IfOk result (λ rows. rows.items ≡ self.now.rows) }
+    {
+        Ok(self.rows.as_slice().to_vec(alloc)?)
     }
 
     /// What the row of the key does; none where there is no row of it. Takes no memory.

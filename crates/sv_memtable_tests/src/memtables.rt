@@ -2,7 +2,7 @@
 use std::alloc::Global;
 use std::test::*;
 use sv_memtable::{Frozen, GREATEST_ROWS, MemCell};
-use sv_model::{Key, MemId, Op, Value};
+use sv_model::{Key, MemId, Op, Row, Value};
 
 /// What stands under a key: no row, a delete, or a value by its first byte.
 #[derive(Clone, Copy, Debug, PartialEq, Eq)]
@@ -113,5 +113,27 @@ fn adds_finds_and_freezes(rt: HostRuntime) -> Result<(), Fail> {
     let later = freeze(&cell)?;
     assert_eq!(rt; later.rows().len(), 4);
     assert_eq!(rt; in_frozen(alloc, &later, b"a")?, Found::Byte(0x39));
+    Ok(())
+}
+
+fn copied(alloc: Global, frozen: &Frozen) -> Result<Vec<Row>, Fail> {
+    match frozen.to_rows(alloc) {
+        Ok(rows) => Ok(rows),
+        Err(_) => Err("no memory")?,
+    }
+}
+
+#[test]
+fn gives_copies_of_its_rows(rt: HostRuntime) -> Result<(), Fail> {
+    let alloc = rt.alloc();
+    let mut cell = MemCell::new(alloc, MemId(1));
+    add(alloc, &mut cell, b"b", None)?;
+    add(alloc, &mut cell, b"a", Some(b"1"))?;
+    let copies = copied(alloc, &freeze(&cell)?)?;
+    assert_eq!(rt; copies.len(), 2);
+    let keys: [&[u8]; 2] = [b"a", b"b"];
+    for (row, key) in copies.iter().zip(&keys) {
+        assert_eq!(rt; row.key.as_bytes(), *key);
+    }
     Ok(())
 }

@@ -1,5 +1,5 @@
 // The registry: every SuperVersion ever made, and by place the Live one that stands there.
-ghost use Rattle.std.specs.Prelude.{◌≡◌, ◌+◌, ◌*◌, ◌∷◌, ◌++◌, [], ◌<◌, ◌↔◌, length, true, IsTrue, IsSomeAnd, IfOk, OnErr};
+ghost use Rattle.std.specs.Prelude.{◌≡◌, ◌+◌, ◌*◌, ◌∷◌, ◌++◌, [], ◌<◌, ◌↔◌, length, count_by, not, true, IsTrue, IsSomeAnd, IfOk, OnErr};
 ghost use Rattle.std.specs.Option.{option_copied, option_map};
 ghost use Rattle.sv_model.specs.declared.records.SuperVersion.{SuperVersion};
 ghost use Rattle.sv_model.specs.Refusals.{Refuses};
@@ -97,6 +97,20 @@ impl Registry {
         ensures { IsTrue result ↔ Has (UsesMemtable mem) self.now }
     {
         self.names(&Part::Active(mem))
+    }
+
+    /// How many SuperVersions were ever made. Takes no memory.
+    pub fn made(&self) -> u64
+        ensures { result ≡ length self.now }
+    {
+        self.records.len() as u64
+    }
+
+    /// How many SuperVersions are Gone. Looks at each that was ever made. Takes no memory.
+    pub fn gone(&self) -> u64
+        ensures { result ≡ count_by (λ s. not s.live) self.now }
+    {
+        self.records.iter().filter(|record| !record.live).count() as u64
     }
 
     /// Makes a SuperVersion of this descriptor, Live, under the next serial and at the least free

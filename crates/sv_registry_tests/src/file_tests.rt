@@ -1,6 +1,7 @@
 // The book of file numbers: captures, the bound, and which numbers are Obsolete.
 ghost use Rattle.std.specs.Prelude.{◌<◌};
 
+use std::alloc::Global;
 use std::rt::HostRuntime;
 use sv_files::{FileBook, GREATEST_CAPTURED};
 use sv_model::{FamilyId, FileNumber, Refusal};
@@ -21,6 +22,13 @@ fn settle(book: &mut FileBook, family: u8, live: bool) -> Option<FileNumber>
     let _ = book.next();
     book.settle(number, live);
     Some(number)
+}
+
+// How many Obsolete numbers there are, and the first; none where there are none, or no memory.
+fn left(alloc: Global, book: &FileBook) -> Option<(usize, FileNumber)> {
+    let numbers = book.left(alloc).ok()?;
+    let first = numbers.first()?;
+    Some((numbers.len(), *first))
 }
 
 #[test]
@@ -45,6 +53,8 @@ fn captures_and_settles(rt: HostRuntime) {
     for (from, number) in [(0, Some(10)), (10, Some(10)), (11, Some(11)), (12, None)] {
         assert_eq!(rt; book.obsolete_from(from), number.map(|n| FileNumber(n)));
     }
+    assert_eq!(rt; left(rt.alloc(), &book), Some((2, FileNumber(10))));
+    assert_eq!(rt; book.gone(), 0);
     for number in [10, 11] {
         let found = book.obsolete_from(0);
         assert_eq!(rt; found, Some(FileNumber(number)));
@@ -54,6 +64,9 @@ fn captures_and_settles(rt: HostRuntime) {
     }
     assert_eq!(rt; book.obsolete_from(0), None);
     assert_eq!(rt; book.next(), FileNumber(13));
+    assert_eq!(rt; left(rt.alloc(), &book), None);
+    assert_eq!(rt; (book.made(), book.gone()), (3, 2));
+    assert_eq!(rt; (book.strays_seen(), book.strays_gone()), (0, 0));
 }
 
 #[test]

@@ -59,6 +59,8 @@ fn has_a_place_for_each_live_one(rt: HostRuntime) {
     for (serial, place) in [(257, 3), (258, 7), (259, 255)] {
         assert_eq!(rt; registry.make(descriptor(1, 1, 1)), Ok(pack(serial, place)));
     }
+    assert_eq!(rt; registry.made(), 259);
+    assert_eq!(rt; registry.gone(), 3);
     assert_eq!(rt;
         registry.make(descriptor(1, 1, 1)),
         Err(Refusal::TooManyLive)

@@ -10,7 +10,7 @@ returns-then-is_obsolete-clause-least c =
     let low = c.loop-number.invariant.0 in
     let none = none_before c.args.kept.now c.args.numbers.now c.args.from c.loop-number.low c.in-Some.number c.requires.positions c.loop-number.invariant.1 c.in-Some.ensures.least in (
       omega (arith, found.0),
-      (suc c.in-Some.at, c.index-numbers-at.result, at.0, record { number_is = at.1; status_is = c.is_obsolete.ensures.0 c.if-is_obsolete.true }),
+      (suc c.in-Some.at, c.index-numbers-at.result, at.0, record { number_is = at.1; status_is = c.is_obsolete.ensures.means.0 c.if-is_obsolete.true }),
       least_of c.args.numbers.now c.args.from c.in-Some.number none,
     )
 
@@ -31,7 +31,7 @@ loop-number-preserved c =
     let none = none_before c.args.kept.now c.args.numbers.now c.args.from c.loop-number.low c.in-Some.number c.requires.positions c.loop-number.invariant.1 c.in-Some.ensures.least in (
       omega (arith, found.0),
       none_up_to c.args.numbers.now c.args.next c.args.from c.in-Some.number (suc c.in-Some.at) c.index-numbers-at.result c.requires.numbered at.0 at.1
-          (λ is. false≢true (sym c.if-is_obsolete.false ∙ c.is_obsolete.ensures.1 is)) none,
+          (λ is. false≢true (sym c.if-is_obsolete.false ∙ c.is_obsolete.ensures.means.1 is)) none,
     )
 
 pub returns-clause-least : goal.returns-clause-least
