@@ -1,0 +1,2 @@
+// The memtables: their limit, their cells, and what stands of one that ended.
+ghost use Rattle.std.specs.Prelude.{◌<◌, length};
