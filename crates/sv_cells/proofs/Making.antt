@@ -1,5 +1,5 @@
 -- What the laws of memtables owe after one is made, and which refusal is due.
-use Rattle.std.proofs.Common.{◌≡◌, ℕ, ◌+◌, true, false, cond, List, [], ◌∷◌, ◌++◌, length, Option, Some, None, is_none, set, arith, sym, ap, subst, ◌∙◌, length-set, refl}
+use Rattle.std.proofs.Common.{◌≡◌, ℕ, ◌+◌, true, cond, List, [], ◌∷◌, ◌++◌, length, Option, Some, None, is_none, set, arith, sym, ap, subst, ◌∙◌, length-set, refl}
 use Rattle.std.proofs.lemmas.Bool.{lt-leb, le-leb}
 use Rattle.sv_model.specs.declared.records.Memtable.{Memtable}
 use Rattle.sv_model.specs.declared.refusals.Refusal.TheVariants.{TooManyMemtables}

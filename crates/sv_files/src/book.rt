@@ -1,8 +1,9 @@
 // The book of file numbers.
-ghost use Rattle.std.specs.Prelude.{◌≡◌, ◌≤◌, ◌<◌, ◌+◌, [], ◌∷◌, ◌++◌, ℕ, Some, None, IsSome, IfSome, IfOk, OnErr, slice_get, replicate};
+ghost use Rattle.std.specs.Prelude.{◌≡◌, ◌≤◌, ◌<◌, ◌+◌, [], ◌∷◌, ◌++◌, ℕ, Some, None, cond, IsSome, IfSome, IfOk, OnErr, slice_get, replicate};
 ghost use Rattle.std.specs.Ordering.{nat_cmp};
 ghost use Rattle.std.specs.BTreeMap.{get};
 ghost use Rattle.sv_model.specs.declared.records.FileStatus.TheVariants.{Pending, Live, Obsolete, Gone};
+ghost use Rattle.sv_model.specs.declared.refusals.Refusal.TheVariants.{RegisterFull};
 ghost use Rattle.sv_model.specs.Refusals.{Refuses};
 ghost use Rattle.sv_files.specs.Calls.{IsRegistered, IsLeastObsolete, IsSettled, MarksOnly, capture_fault, captured_for, least_captured, settled_status};
 ghost use Rattle.sv_files.specs.Laws.{FileLaws};
@@ -155,6 +156,14 @@ impl FileBook {
         ensures { result ≡ least_captured self.now.captured }
     {
         least(&self.captured)
+    }
+
+    /// Whether a capture would be refused: 1,048,576 numbers were captured or the next number is the
+    /// greatest `u64`.
+    pub fn is_full(&self) -> bool
+        ensures { capture_fault self.now ≡ cond result (Some RegisterFull) None }
+    {
+        self.made >= GREATEST_CAPTURED || self.next == u64::MAX
     }
 }
 
