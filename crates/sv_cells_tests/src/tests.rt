@@ -103,7 +103,10 @@ fn keeps_every_record(rt: HostRuntime) {
 
 // The id of a memtable that was made and taken back.
 fn taken_back(memtables: &mut Memtables) -> Result<MemId, Refusal> {
-    let made = make(memtables, 9, 9)?;
+    if memtables.made() >= u32::MAX as u64 {
+        return Err(Refusal::RegisterFull);
+    }
+    let made = memtables.make(FamilyId(9), 9)?;
     memtables.take_back();
     Ok(made)
 }
