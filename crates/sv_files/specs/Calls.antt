@@ -60,14 +60,6 @@ pub record IsSettled (number : ℕ) (live : Bool) (old new : FileRegister) : Typ
   pub was : slice_get old.captured family ≡ Some (Some number)
   pub rest : new ≡ record old { numbers = new.numbers; captured = slice_set old.captured family None }
 
-abbrev pub is_obsolete_status : FileStatus → Bool
-is_obsolete_status Obsolete = true
-is_obsolete_status status = false
-
--- the number is Obsolete
-abbrev pub is_obsolete : RegisteredFile → Bool
-is_obsolete f = is_obsolete_status f.status
-
 -- the least Obsolete number that is not below `from`
 abbrev pub IsLeastObsolete : List RegisteredFile → ℕ → Option ℕ → Type 0
 IsLeastObsolete numbers from None = (n : ℕ) → from ≤ n → IsRegistered numbers n Obsolete → ⊥

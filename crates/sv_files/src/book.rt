@@ -1,12 +1,12 @@
 // The book of file numbers.
-ghost use Rattle.std.specs.Prelude.{◌≡◌, ◌≤◌, ◌<◌, ◌+◌, [], ◌∷◌, ◌++◌, ℕ, Some, None, IsSome, IfSome, IfOk, OnErr, slice_get, replicate, map, count_by, is_some, is_none, ◌&&◌};
-ghost use Rattle.std.specs.List.{filter};
+ghost use Rattle.std.specs.Prelude.{◌≡◌, ◌≤◌, ◌<◌, ◌+◌, [], ◌∷◌, ◌++◌, ℕ, Some, None, IsSome, IfSome, IfOk, OnErr, slice_get, replicate, count_by, is_some, is_none, ◌&&◌, cond};
 ghost use Rattle.std.specs.Ordering.{nat_cmp};
 ghost use Rattle.std.specs.BTreeMap.{get};
 ghost use Rattle.sv_model.specs.declared.records.FileStatus.TheVariants.{Pending, Live, Obsolete, Gone};
-ghost use Rattle.sv_model.specs.Summaries.{is_gone};
+ghost use Rattle.sv_model.specs.Summaries.{is_gone, obsolete_of};
+ghost use Rattle.sv_model.specs.declared.refusals.Refusal.TheVariants.{RegisterFull};
 ghost use Rattle.sv_model.specs.Refusals.{Refuses};
-ghost use Rattle.sv_files.specs.Calls.{IsRegistered, IsLeastObsolete, IsSettled, MarksOnly, capture_fault, captured_for, is_obsolete, least_captured, settled_status};
+ghost use Rattle.sv_files.specs.Calls.{IsRegistered, IsLeastObsolete, IsSettled, MarksOnly, capture_fault, captured_for, least_captured, settled_status};
 ghost use Rattle.sv_files.specs.Laws.{FileLaws};
 
 use crate::obsolete::{first_obsolete, is_obsolete};
@@ -159,6 +159,14 @@ impl FileBook {
         least(&self.captured)
     }
 
+    /// Whether a capture would be refused: 1,048,576 numbers were captured or the next number is the
+    /// greatest `u64`.
+    pub fn is_full(&self) -> bool
+        ensures { capture_fault self.now ≡ cond result (Some RegisterFull) None }
+    {
+        self.made >= GREATEST_CAPTURED || self.next == u64::MAX
+    }
+
     /// How many numbers were ever captured. Takes no memory.
     pub fn made(&self) -> u64
         ensures { result ≡ count_by (λ f. is_some f.family) self.now.numbers }
@@ -198,7 +206,7 @@ impl FileBook {
 
     /// The Obsolete numbers, in the order in which they were registered. Looks at each number.
     pub fn left(&self, alloc: Global) -> Result<Vec<FileNumber>, OutOfMemory>
-        ensures { IfOk result (λ left. left.items ≡ map (λ f. f.number) (filter is_obsolete self.now.numbers)) }
+        ensures { IfOk result (λ left. left.items ≡ obsolete_of self.now.numbers) }
     {
         let left = self
             .numbers

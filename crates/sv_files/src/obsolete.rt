@@ -3,7 +3,8 @@ ghost use Rattle.std.specs.Prelude.{◌≡◌, ◌≤◌, ◌<◌, ◌^◌, ◌�
 ghost use Rattle.std.specs.Ordering.{nat_cmp};
 ghost use Rattle.std.specs.BTreeMap.{get};
 ghost use Rattle.sv_model.specs.declared.records.FileStatus.TheVariants.{Obsolete};
-ghost use Rattle.sv_files.specs.Calls.{IsLeastObsolete, is_obsolete};
+ghost use Rattle.sv_model.specs.Summaries.{is_obsolete};
+ghost use Rattle.sv_files.specs.Calls.{IsLeastObsolete};
 ghost use Rattle.sv_files.specs.Kept.{AreNumbered, KeepsPositions};
 
 use std::collections::BTreeMap;
@@ -45,7 +46,7 @@ fn first_from(kept: &BTreeMap<u64, usize>, low: u64) -> Option<(u64, usize)>
 
 /// Whether the number is Obsolete.
 pub fn is_obsolete(file: &RegisteredFile) -> bool
-    ensures value { result ≡ is_obsolete file.now }
+    ensures value { result ≡ is_obsolete file.now.status }
     ensures means { IsTrue result ↔ (file.now.status ≡ Obsolete) }
 {
     matches!(file.status, FileStatus::Obsolete)

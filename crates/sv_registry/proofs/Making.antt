@@ -1,5 +1,5 @@
 -- What the registry's laws owe after a SuperVersion is made or ended.
-use Rattle.std.proofs.Common.{◌≡◌, ℕ, ◌+◌, ◌-◌, Bool, IsSomeAnd, get_or, ◌*◌, ◌<◌, ◌≤◌, true, false, cond, nat_le, List, [], ◌∷◌, ◌++◌, length, Option, Some, None, set, arith, sym, ap, subst, ◌∙◌, length-append, length-set, refl}
+use Rattle.std.proofs.Common.{◌≡◌, ℕ, ◌+◌, ◌-◌, Bool, is_none, IsSomeAnd, get_or, ◌*◌, ◌<◌, ◌≤◌, true, false, cond, List, [], ◌∷◌, ◌++◌, length, Option, Some, None, set, arith, sym, ap, subst, ◌∙◌, length-append, length-set, refl}
 use Rattle.std.proofs.lemmas.Bool.{lt-leb, le-leb}
 use Rattle.sv_model.specs.declared.records.SuperVersion.{SuperVersion}
 use Rattle.sv_model.specs.declared.records.Descriptor.{Descriptor}
@@ -9,7 +9,7 @@ use Rattle.sv_model.specs.Places.{first_free, live_count}
 use Rattle.sv_model.proofs.Registers.{length-change, change-code, entry-code, entry_le}
 use Rattle.sv_model.proofs.PlaceLaws.{housed_push, housed_end, full_is, least_is}
 use Rattle.sv_registry.specs.Laws.{is_live, place_of, IsRegistry}
-use Rattle.sv_registry.specs.Calls.{IsMade, IsEnded, IsReclaimed, IsLivePack, Frees, make_fault}
+use Rattle.sv_registry.specs.Calls.{IsMade, IsEnded, IsReclaimed, IsLivePack, Frees, full_fault, make_fault}
 use Rattle.sv_registry.specs.declared.registry.Freed.{Freed}
 use Rattle.sv_registry.specs.Names.{UsesMemtable, UsesList, UsesVersion}
 
@@ -34,23 +34,26 @@ registry_end supers places n s h at live = record {
 }
 
 -- ---- which refusal is due
-fault_by : (made count : ℕ) (full : Bool) → made < 1048576 → nat_le 256 count ≡ full → cond (nat_le 1048576 made) (Some RegisterFull) (cond (nat_le 256 count) (Some TooManyLive) None) ≡ cond full (Some TooManyLive) None
-fault_by made count full room is =
-    ap (λ b. cond b (Some RegisterFull) (cond (nat_le 256 count) (Some TooManyLive) None)) (lt-leb 1048576 made room)
-    ∙ ap (λ b. cond b (Some TooManyLive) None) is
-
--- 256 are Live where the scan finds no free place
-pub fault_full : (supers self : List SuperVersion) (places : List ℕ) → supers ≡ self → IsRegistry supers places → length supers < 1048576 → first_free places ≡ None → make_fault self ≡ Some TooManyLive
-fault_full supers self places same h room none =
-    let count = full_is is_live place_of supers places h.housed none in
+-- 256 are Live exactly where the scan finds no free place
+pub full_fault_is : (supers self : List SuperVersion) (places : List ℕ) (found : Option ℕ) → supers ≡ self → IsRegistry supers places → first_free places ≡ found → full_fault self ≡ cond (is_none found) (Some TooManyLive) None
+full_fault_is supers self places None same h free =
+    let count = full_is is_live place_of supers places h.housed free in
     let wide = h.wide in
-    sym (ap make_fault same) ∙ fault_by (length supers) (live_count is_live supers) true room (le-leb 256 (live_count is_live supers) (omega arith))
-
-pub fault_none : (supers self : List SuperVersion) (places : List ℕ) (place : ℕ) → supers ≡ self → IsRegistry supers places → length supers < 1048576 → first_free places ≡ Some place → make_fault self ≡ None
-fault_none supers self places place same h room free =
+    sym (ap full_fault same)
+    ∙ ap (λ b. cond b (Some TooManyLive) None) (le-leb 256 (live_count is_live supers) (omega arith))
+full_fault_is supers self places (Some place) same h free =
     let least = least_is is_live place_of supers places place h.housed free in
     let wide = h.wide in
-    sym (ap make_fault same) ∙ fault_by (length supers) (live_count is_live supers) false room (lt-leb 256 (live_count is_live supers) (omega (arith, least.2)))
+    sym (ap full_fault same)
+    ∙ ap (λ b. cond b (Some TooManyLive) None) (lt-leb 256 (live_count is_live supers) (omega (arith, least.2)))
+
+-- the refusal where serials are left
+pub fault_is : (supers self : List SuperVersion) (places : List ℕ) (found : Option ℕ) → supers ≡ self → IsRegistry supers places → length supers < 1048576 → first_free places ≡ found → make_fault self ≡ cond (is_none found) (Some TooManyLive) None
+fault_is supers self places found same h room free =
+    sym (ap make_fault same)
+    ∙ ap (λ b. cond b (Some RegisterFull) (full_fault supers)) (lt-leb 1048576 (length supers) room)
+    ∙ ap full_fault same
+    ∙ full_fault_is supers self places found same h free
 
 -- ---- what was made
 pub made_is : (supers self : List SuperVersion) (places : List ℕ) (d : Descriptor) (place n : ℕ) (new : List SuperVersion) → supers ≡ self → IsRegistry supers places → first_free places ≡ Some place → n ≡ length supers + 1 → new ≡ supers ++ live_record d place ∷ [] → IsMade self d (n * 256 + place) new

@@ -10,11 +10,13 @@ use Rattle.sv_registry.specs.declared.registry.Freed.{Freed}
 use Rattle.sv_registry.specs.Names.{UsesMemtable, UsesList, UsesVersion}
 use Rattle.sv_registry.specs.Laws.{is_live, place_of}
 
+-- the refusal that is due where 256 are Live
+abbrev pub full_fault : List SuperVersion → Option Refusal
+full_fault supers = cond (nat_le 256 (live_count is_live supers)) (Some TooManyLive) None
+
 -- the refusal that making a SuperVersion meets: 1,048,576 were made, or 256 are Live
 abbrev pub make_fault : List SuperVersion → Option Refusal
-make_fault supers =
-    cond (nat_le 1048576 (length supers)) (Some RegisterFull)
-    (cond (nat_le 256 (live_count is_live supers)) (Some TooManyLive) None)
+make_fault supers = cond (nat_le 1048576 (length supers)) (Some RegisterFull) (full_fault supers)
 
 -- A Live SuperVersion with this descriptor is made at the least free place, under the next serial.
 pub record IsMade (old : List SuperVersion) (descriptor : Descriptor) (pack : ℕ) (new : List SuperVersion) : Type 0 where

@@ -1,14 +1,15 @@
 // The registry: every SuperVersion ever made, and by place the Live one that stands there.
-ghost use Rattle.std.specs.Prelude.{◌≡◌, ◌+◌, ◌*◌, ◌∷◌, ◌++◌, [], ◌<◌, ◌↔◌, length, count_by, not, true, IsTrue, IsSomeAnd, IfOk, OnErr};
+ghost use Rattle.std.specs.Prelude.{◌≡◌, ◌+◌, ◌*◌, ◌∷◌, ◌++◌, [], ◌<◌, ◌↔◌, length, count_by, not, true, IsTrue, IsSomeAnd, IfOk, OnErr, Some, None, cond, nat_le};
 ghost use Rattle.std.specs.Option.{option_copied, option_map};
 ghost use Rattle.sv_model.specs.declared.records.SuperVersion.{SuperVersion};
+ghost use Rattle.sv_model.specs.declared.refusals.Refusal.TheVariants.{RegisterFull, TooManyLive};
 ghost use Rattle.sv_model.specs.Refusals.{Refuses};
 ghost use Rattle.sv_model.specs.Registers.{entry, Has};
 ghost use Rattle.sv_model.specs.Places.{Housed};
 ghost use Rattle.sv_registry.specs.Laws.{is_live, place_of};
 ghost use Rattle.sv_registry.specs.Names.{UsesMemtable, UsesList, UsesVersion};
 ghost use Rattle.sv_registry.specs.Parts.{NamesPart};
-ghost use Rattle.sv_registry.specs.Calls.{IsJustMade, IsLivePack, IsMade, IsReclaimed, IsEnded, Frees, make_fault};
+ghost use Rattle.sv_registry.specs.Calls.{IsJustMade, IsLivePack, IsMade, IsReclaimed, IsEnded, Frees, full_fault, make_fault};
 
 use crate::parts::{Part, is_named};
 use std::alloc::Global;
@@ -218,5 +219,19 @@ impl Registry {
             return None;
         }
         Some(version)
+    }
+
+    /// Whether 256 are Live, so that no place is free. Looks at the places alone.
+    pub fn is_full(&self) -> bool
+        ensures { full_fault self.now ≡ cond result (Some TooManyLive) None }
+    {
+        least_free(&self.places).is_none()
+    }
+
+    /// Whether 1,048,576 were made, so that no serial is left.
+    pub fn all_made(&self) -> bool
+        ensures { make_fault self.now ≡ cond result (Some RegisterFull) (full_fault self.now) }
+    {
+        self.records.len() >= GREATEST_MADE
     }
 }

@@ -1,5 +1,5 @@
 use Rattle.std.proofs.Common.{◌≡◌, ◌++◌, ◌∷◌, [], ◌+◌, length, is_ok, true, not, set, vec_len, arith, ◌∙◌, sym, ap, subst}
-use Rattle.sv_registry.proofs.Making.{live_record, fault_full, fault_none, registry_push, made_is, where_ok}
+use Rattle.sv_registry.proofs.Making.{live_record, fault_is, registry_push, made_is, where_ok}
 use Rattle.sv_registry.specs.Laws.{IsRegistry}
 use Rattle.sv_registry.proofs.registry.Registry.make.Goals as goal
 
@@ -12,7 +12,7 @@ is_pushed c =
 
 pub returns-in_default-clause-refused : goal.returns-in_default-clause-refused
 returns-in_default-clause-refused c =
-    fault_full c.self.inside.records.items c.args.self.now c.self.inside.places c.self.view_is c.self.invariant (omega (arith, c.self.inside.records.ok.0)) (sym c.least_free.ensures ∙ c.in_default.is)
+    fault_is c.self.inside.records.items c.args.self.now c.self.inside.places _ c.self.view_is c.self.invariant (omega (arith, c.self.inside.records.ok.0)) (sym c.least_free.ensures ∙ c.in_default.is)
 
 pub invariant_of-self-2 : goal.invariant_of-self-2
 invariant_of-self-2 c =
@@ -27,4 +27,4 @@ returns-clause-made c =
 
 pub returns-clause-refused : goal.returns-clause-refused
 returns-clause-refused c =
-    fault_none c.self.inside.records.items c.args.self.now c.self.inside.places c.in-Some.place c.self.view_is c.self.invariant (omega (arith, c.self.inside.records.ok.0)) (sym c.least_free.ensures ∙ c.in-Some.is)
+    fault_is c.self.inside.records.items c.args.self.now c.self.inside.places _ c.self.view_is c.self.invariant (omega (arith, c.self.inside.records.ok.0)) (sym c.least_free.ensures ∙ c.in-Some.is)
