@@ -89,8 +89,9 @@ fn first_of_each(alloc: Global, rows: &[&Row], bottom: bool) -> Result<Vec<Row>,
 }
 
 /// One table over the joined range of these: the newest row of each key, at the bottom without deletes. The tables
-/// stand oldest first. Their rows are gathered and sorted by key, so n rows take n * log n comparisons; only the
-/// rows that stay are copied.
+/// stand oldest first. The sort takes each table's rows, which fall where they were gathered, for one run, and merges
+/// neighbouring runs in balanced rounds: n rows of k tables take n * (1 + log k) comparisons, but those of tables of
+/// fewer than 64 rows, or than the square root of n, are sorted together. Only the rows that stay are copied.
 pub fn merge(alloc: Global, tables: &[Table], bottom: bool) -> Result<Table, OutOfMemory>
     requires some { 1 ≤ length tables.now }
     requires joined { (from : ℕ) × (to : ℕ) × Joined from tables.now to }

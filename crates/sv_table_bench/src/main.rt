@@ -1,25 +1,40 @@
 //! Measures the encoding, decoding, looking up and merging of tables. `sv_table_bench ROWS` prints the rows a second
-//! of each; `sv_table_bench ROWS quiet` only checks that a table is encoded to its bytes and that each key is found.
+//! of each; `sv_table_bench ROWS TABLES` those of merges of so many tables, which have so many rows together; and
+//! `sv_table_bench ROWS quiet` only checks that a table is encoded to its bytes and that each key is found.
 #![tactic(auto)]
 
 mod faults;
 mod measures;
+mod merges;
 mod samples;
 
 use faults::Fault;
+use samples::Keys;
 use std::alloc::AllocError;
 use std::env;
 use std::io::ErrorKind;
 use std::process::ExitCode;
 use std::rt::Clock;
 
-const USAGE: &str = "usage: sv_table_bench ROWS [quiet], with 1 to 1000000 rows";
+const USAGE: &str =
+    "usage: sv_table_bench ROWS [quiet | TABLES], with 1 to 1000000 rows and 1 to 1000 tables";
+
+/// What is asked for.
+#[derive(Clone, Copy)]
+enum Measure {
+    /// Each call in turn.
+    Calls,
+    /// Merges of so many tables.
+    Merges(u32),
+    /// Nothing, but to check the answers.
+    Quiet,
+}
 
 /// What the words ask for.
 #[derive(Clone, Copy)]
 struct Task {
     rows: u32,
-    quiet: bool,
+    measure: Measure,
 }
 
 /// The words after the program's name. Where they are not all text there are none, which the program does not take.
@@ -36,28 +51,52 @@ fn words(rt: &HostRuntime) -> Result<Vec<String>, AllocError> {
     Ok(words)
 }
 
+/// The number that the word is, if it is within the bounds.
+fn number(word: &str, greatest: u32) -> Option<u32> {
+    match word.parse::<u32>() {
+        Ok(number) if number >= 1 && number <= greatest => Some(number),
+        _ => None,
+    }
+}
+
 fn asked(words: &[String]) -> Option<Task> {
-    let (number, quiet) = match words {
-        [number] => (number, false),
-        [number, word] if word.as_str() == "quiet" => (number, true),
+    let (rows, measure) = match words {
+        [rows] => (rows, Measure::Calls),
+        [rows, word] if word.as_str() == "quiet" => (rows, Measure::Quiet),
+        [rows, tables] => (rows, Measure::Merges(number(tables.as_str(), 1000)?)),
         _ => return None,
     };
-    match number.as_str().parse::<u32>() {
-        Ok(rows) if rows >= 1 && rows <= 1_000_000 => Some(Task { rows, quiet }),
-        _ => None,
+    Some(Task {
+        rows: number(rows.as_str(), 1_000_000)?,
+        measure,
+    })
+}
+
+/// The numbers from the first on.
+fn each_from(first: u32, count: u32) -> Keys {
+    Keys {
+        first,
+        step: 1,
+        count,
     }
 }
 
 fn perform(rt: &(impl Clock + Print + AllocGlobal), task: Task) -> Result<(), Fault> {
     let rows = task.rows;
-    let text = samples::text(rt.alloc(), 0, 0, rows)?;
-    if task.quiet {
-        samples::check(rt.alloc(), &text)?;
-        println!(rt; "rows {rows} ok")?;
-        return Ok(());
+    let alloc = rt.alloc();
+    match task.measure {
+        Measure::Merges(tables) => merges::of_tables(rt, alloc, rows, tables),
+        Measure::Quiet => {
+            samples::check(alloc, &samples::text(alloc, 0, each_from(0, rows))?)?;
+            println!(rt; "rows {rows} ok")?;
+            Ok(())
+        }
+        Measure::Calls => {
+            let text = samples::text(alloc, 0, each_from(0, rows))?;
+            let newer = samples::text(alloc, u64::from(rows), each_from(rows / 2, rows))?;
+            measures::all(rt, alloc, &text, &newer, rows)
+        }
     }
-    let newer = samples::text(rt.alloc(), u64::from(rows), rows / 2, rows)?;
-    measures::all(rt, rt.alloc(), &text, &newer, rows)
 }
 
 fn run(rt: &HostRuntime) -> Result<(), Fault> {

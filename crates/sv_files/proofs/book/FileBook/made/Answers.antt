@@ -1,4 +1,4 @@
-use Rattle.std.proofs.Common.{◌≡◌, ◌+◌, cond, List, [], ◌∷◌, count_by, is_some, refl, arith, ap, ◌∙◌}
+use Rattle.std.proofs.Common.{◌≡◌, List, count_by, is_some, refl, arith, ap, ◌∙◌}
 use Rattle.std.proofs.lemmas.List.Recursion.{is_count_by}
 use Rattle.sv_model.specs.Books.{FileRegister}
 use Rattle.sv_model.specs.declared.records.RegisteredFile.{RegisteredFile}
