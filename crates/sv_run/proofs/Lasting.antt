@@ -1,5 +1,5 @@
 -- What is so of books is so of all that come after them.
-use Rattle.std.proofs.Common.{◌≡◌, ◌≤◌, ◌+◌, ◌==◌, ◌⊎◌, inl, inr, ℕ, suc, Bool, true, cond, List, [], ◌∷◌, ◌++◌, length, take, Option, Some, None, refl, sym, ◌∙◌, ap, subst, arith}
+use Rattle.std.proofs.Common.{◌≡◌, ◌≤◌, ◌+◌, ◌==◌, inl, inr, ℕ, suc, Bool, cond, List, [], ◌∷◌, ◌++◌, length, take, Option, Some, None, refl, sym, ◌∙◌, ap, subst, arith}
 use Rattle.std.specs.Prelude.{slice_get, IsSomeAnd, is_some, count_by, option_and_then}
 use Rattle.std.proofs.lemmas.List.{length-append, take-append-le}
 use Rattle.std.proofs.lemmas.List.Elements.{filter-append}
@@ -16,7 +16,7 @@ use Rattle.sv_model.specs.Registers.{entry, GoesOn, Has}
 use Rattle.sv_model.specs.Books.{Books, end_of}
 use Rattle.sv_model.specs.After.{After, Continues, KeepsMemtable, KeepsNumber}
 use Rattle.sv_model.specs.Reads.{IsWrite, IsWrittenAt, Serves, LooksAt, IsCapturedFor, IsOutput}
-use Rattle.sv_model.specs.Moments.{BeginsFrom, HasTwo, WasStalled, ReachesTo, WasFlushed, WereManyMemtables, WereManyLive, WereAllMade, WereAllNumbered, WasCapturedFor}
+use Rattle.sv_model.specs.Moments.{BeginsFrom, WasStalled, WasFlushed, WereManyMemtables, WereManyLive, WereAllMade, WereAllNumbered, WasCapturedFor}
 use Rattle.sv_model.proofs.Registers.{entry-old}
 
 -- ---- registers

@@ -11,12 +11,12 @@ use Rattle.sv_dir.specs.Files.{Files}
 use Rattle.sv_script.specs.declared.Command.TheVariants as command
 use Rattle.sv_script.specs.declared.Reply.TheVariants as reply
 use Rattle.sv_script.specs.Answered.{Answered, handle_of, seen, flushed, fault_by}
-use Rattle.sv_script.specs.ReplyLaw.{due, handle_fault, ReplyFits, WriteMet, ReadMet, FlushMet}
+use Rattle.sv_script.specs.ReplyLaw.{due, handle_fault, WriteMet, ReadMet, FlushMet}
 use Rattle.sv_plain.specs.Due.{WriteMoment, ReadMoment, FlushMoment, fault_of}
 use Rattle.sv_plain.specs.Held.{Holds, OthersStay}
 use Rattle.sv_plain.specs.Store.{last_files, write_count}
 use Rattle.sv_run.specs.States.{State, state_of, IsReady}
-use Rattle.sv_run.specs.Steps.{Knows, Steps}
+use Rattle.sv_run.specs.Steps.{Steps}
 use Rattle.sv_run.proofs.Following.{after-same}
 use Rattle.sv_run.proofs.Keeping.{both-same, others-same, numbered-same, rose-none, knows-later}
 use Rattle.sv_run.proofs.Lasting.{stalled-later, flushed-later, many_memtables-later, many_live-later, all_made-later, all_numbered-later, captured-later}

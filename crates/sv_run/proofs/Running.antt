@@ -1,14 +1,13 @@
 -- From the lines that were answered to a run that is done.
-use Rattle.std.proofs.Common.{◌≡◌, ◌<◌, ◌≤◌, ◌+◌, ◌↔◌, ℕ, List, [], ◌∷◌, length, map, Option, Some, None, refl, sym, ◌∙◌, ap, subst, arith}
+use Rattle.std.proofs.Common.{◌≡◌, ◌≤◌, ◌↔◌, ℕ, List, [], ◌∷◌, length, map, Option, Some, None, refl, ◌∙◌, ap, subst, arith}
 use Rattle.std.specs.Prelude.{IfSome}
 use Rattle.sv_model.specs.declared.End.{End}
 use Rattle.sv_model.specs.declared.End.TheVariants as end
 use Rattle.sv_model.specs.Faults.{RoseBy}
 use Rattle.sv_model.specs.Journal.{change_of}
-use Rattle.sv_model.specs.Registers.{GoesOn}
 use Rattle.sv_model.specs.Summaries.{obsolete_of}
 use Rattle.sv_model.specs.Books.{Books}
-use Rattle.sv_model.specs.After.{After, KeepsNumber}
+use Rattle.sv_model.specs.After.{After}
 use Rattle.sv_dir.specs.Files.{Files}
 use Rattle.sv_script.specs.declared.Script.{Script}
 use Rattle.sv_script.specs.declared.Reply.{Reply}
@@ -19,7 +18,6 @@ use Rattle.sv_plain.specs.Held.{Both, GoneAreAbsent, Holds, OthersStay}
 use Rattle.sv_plain.specs.Store.{IsNumberedFrom}
 use Rattle.sv_run.specs.declared.outcomes.Done.{Done}
 use Rattle.sv_run.specs.Ends.{HasRun, LeavesFiles, faults_at_close}
-use Rattle.sv_run.specs.Handed.{Directory}
 use Rattle.sv_run.specs.Openings.{IsAbove}
 use Rattle.sv_run.specs.States.{State, LeavesOthers}
 use Rattle.sv_run.specs.Told.{Played}

@@ -1,6 +1,5 @@
 -- A text that is written whole or in part ends the run.
-use Rattle.std.proofs.Common.{◌≡◌, ◌≤◌, ℕ, List, Option, Some, None, arith, inl, refl}
-use Rattle.std.specs.Io.KnownBytes.{Appends}
+use Rattle.std.proofs.Common.{◌≡◌, ℕ, List, Option, Some, None, arith, inl, refl}
 use Rattle.sv_model.specs.declared.End.{End}
 use Rattle.sv_model.specs.declared.End.TheVariants as end
 use Rattle.sv_run.specs.declared.outcomes.Done.{Done}

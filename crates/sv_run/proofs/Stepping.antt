@@ -1,5 +1,5 @@
 -- What writes, reads and flushes do that were accepted, and why their replies fit.
-use Rattle.std.proofs.Common.{◌≡◌, ◌<◌, ◌≤◌, ◌+◌, ◌==◌, ℕ, Bool, true, false, cond, List, [], ◌∷◌, ◌++◌, length, map, All, Option, Some, None, refl, sym, ◌∙◌, ap, subst, arith, eq-eqb}
+use Rattle.std.proofs.Common.{◌≡◌, ◌≤◌, ◌+◌, ◌==◌, ℕ, true, false, cond, List, [], ◌∷◌, ◌++◌, length, map, All, Option, Some, None, refl, sym, ◌∙◌, ap, subst, arith, eq-eqb}
 use Rattle.std.specs.Prelude.{IsSomeAnd, is_some}
 use Rattle.std.proofs.lemmas.List.{append-nil, length_push, map-append}
 use Rattle.std.proofs.lemmas.List.Elements.{filter-append}
@@ -7,21 +7,20 @@ use Rattle.sv_model.specs.declared.Write.{Write}
 use Rattle.sv_model.specs.declared.Op.{Op}
 use Rattle.sv_model.specs.declared.Op.TheVariants as op
 use Rattle.sv_model.specs.declared.FileMeta.{FileMeta}
-use Rattle.sv_model.specs.declared.Refusal.{Refusal}
 use Rattle.sv_model.specs.Faults.{RoseBy}
 use Rattle.sv_model.specs.Journal.{Change, change_of, of_family, look}
 use Rattle.sv_model.specs.Ranges.{reach_of}
 use Rattle.sv_model.specs.Registers.{entry}
-use Rattle.sv_model.specs.Books.{Books, FileRegister}
+use Rattle.sv_model.specs.Books.{Books}
 use Rattle.sv_model.specs.After.{After}
-use Rattle.sv_model.specs.Reads.{IsWrite, IsWrittenAt, Serves, LooksAt, IsOutput}
+use Rattle.sv_model.specs.Reads.{IsWrite, Serves, IsOutput}
 use Rattle.sv_model.specs.Refusals.{first_due, key_fault, value_fault}
 use Rattle.sv_model.proofs.Refusing.{none_due}
 use Rattle.sv_model.proofs.Registers.{entry-new}
 use Rattle.sv_dir.specs.Files.{Files}
 use Rattle.sv_script.specs.declared.Command.TheVariants as command
 use Rattle.sv_script.specs.declared.Reply.TheVariants as reply
-use Rattle.sv_script.specs.Answered.{Answered, handle_of, seen}
+use Rattle.sv_script.specs.Answered.{Answered, handle_of}
 use Rattle.sv_script.specs.ReplyLaw.{due, handle_fault, Writes, Gets, Flushes}
 use Rattle.sv_plain.specs.Held.{Both, Holds, OthersStay}
 use Rattle.sv_plain.specs.Settled.{IsWritten, IsFlushed}

@@ -1,5 +1,5 @@
 -- A further command and its reply keep what the lane was told.
-use Rattle.std.proofs.Common.{◌≡◌, ◌<◌, ◌≤◌, inl, inr, ℕ, zero, suc, List, [], ◌∷◌, ◌++◌, length, take, map, Some, refl, sym, ◌∙◌, ap, subst, arith}
+use Rattle.std.proofs.Common.{◌≡◌, ◌<◌, ◌≤◌, inl, inr, ℕ, zero, suc, List, [], ◌∷◌, ◌++◌, length, take, Some, refl, sym, ◌∙◌, ap, subst, arith}
 use Rattle.std.specs.Prelude.{slice_get, is_some}
 use Rattle.std.proofs.Math.Nat.{max-le, le-max_left, le-max_right}
 use Rattle.std.proofs.lemmas.Bool.{cases_lt}
@@ -7,10 +7,9 @@ use Rattle.std.proofs.lemmas.List.{append-nil, length_push, length-map, take_all
 use Rattle.std.proofs.lemmas.Grind.{flat_map-append}
 use Rattle.std.proofs.lemmas.Option.{slice_get_within}
 use Rattle.sv_model.specs.Faults.{RoseBy}
-use Rattle.sv_model.specs.Journal.{Change, change_of}
+use Rattle.sv_model.specs.Journal.{change_of}
 use Rattle.sv_model.specs.Books.{Books}
 use Rattle.sv_model.proofs.Lists.{total-push}
-use Rattle.sv_model.proofs.Registers.{entry-old, entry-new}
 use Rattle.sv_script.specs.declared.Command.{Command}
 use Rattle.sv_script.specs.declared.Reply.{Reply}
 use Rattle.sv_script.specs.Answered.{Answered, accepted, change_asked, seen, newest_serial, flushed, newest_file, shown_by, serial_by, flushed_by, file_by, fault_by, faults_told}

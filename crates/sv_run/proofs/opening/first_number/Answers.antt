@@ -1,5 +1,5 @@
 -- The listing has the name of each file.
-use Rattle.std.proofs.Common.{List, ℕ, ◌<◌, All, String, Global, subst}
+use Rattle.std.proofs.Common.{List, ◌<◌, All, String, Global, subst}
 use Rattle.std.specs.Prelude.{IfSome, string_bytes}
 use Rattle.sv_dir.specs.TableNames.{number_named}
 use Rattle.sv_run.proofs.Numbering.{listed_above}

@@ -1,5 +1,5 @@
 -- The line that was answered last.
-use Rattle.std.proofs.Common.{arith, ◌+◌, List, ℕ, ap, length, subst, sym, ◌∙◌}
+use Rattle.std.proofs.Common.{arith, ◌+◌, List, ℕ, ap, length, subst, sym}
 use Rattle.std.specs.Prelude.{take}
 use Rattle.sv_script.specs.declared.Reply.{Reply}
 use Rattle.sv_run.specs.States.{state_of}

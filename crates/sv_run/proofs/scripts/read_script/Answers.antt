@@ -1,5 +1,4 @@
 -- How a reading stopped is how the run ends.
-use Rattle.std.proofs.Common.{List, ℕ}
 use Rattle.sv_run.proofs.scripts.read_script.Goals as goal
 
 pub returns-in-Err-clause-err : goal.returns-in-Err-clause-err

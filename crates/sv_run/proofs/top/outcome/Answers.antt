@@ -1,5 +1,5 @@
 -- What the parts of a run ensure is how it comes to its text.
-use Rattle.std.proofs.Common.{List, ℕ, Some, None, map, rules, refl, sym, subst}
+use Rattle.std.proofs.Common.{None, map, rules, refl, sym, subst}
 use Rattle.std.specs.Prelude.{string_bytes}
 use Rattle.sv_run.specs.declared.outcomes.Ended.{Ended}
 use Rattle.sv_run.specs.Ends.{Follows}

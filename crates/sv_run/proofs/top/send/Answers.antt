@@ -1,5 +1,4 @@
 -- The text was written whole, so the run ends as it came to.
-use Rattle.std.proofs.Common.{List, ℕ}
 use Rattle.sv_run.proofs.Sending.{ends-whole}
 use Rattle.sv_run.proofs.top.send.Goals as goal
 
