@@ -1,13 +1,17 @@
 -- Where nothing is wrong with the words and the script and nothing fails, the lines are answered.
-use Rattle.std.proofs.Common.{◌≡◌, inl, inr, ℕ, List, Option, Some, None, Result, Ok, Err, refl, arith}
+use Rattle.std.proofs.Common.{◌≡◌, ◌≤◌, ◌+◌, inl, inr, ℕ, List, [], ◌∷◌, length, Option, Some, None, Result, Ok, Err, refl, sym, ◌∙◌, subst, arith}
 use Rattle.std.specs.Prelude.{IsSomeAnd, IfSome}
+use Rattle.sv_model.specs.declared.End.{End}
+use Rattle.sv_model.specs.declared.End.TheVariants as end
+use Rattle.sv_model.specs.Faults.{Rose, RoseBy}
 use Rattle.sv_script.specs.declared.Script.{Script}
 use Rattle.sv_script.specs.declared.BadLine.{BadLine}
 use Rattle.sv_script.specs.Script.{script_of}
 use Rattle.sv_run.specs.declared.outcomes.Done.{Done}
 use Rattle.sv_run.specs.declared.outcomes.Status.{Status}
 use Rattle.sv_run.specs.declared.outcomes.Status.TheVariants as status
-use Rattle.sv_run.specs.Ends.{IsScript, IsBad, Ends, Completes}
+use Rattle.sv_run.specs.Ends.{IsScript, IsBad, IsDoneAs, Ends, Completes, faults_at_close, left_of}
+use Rattle.sv_run.specs.Handed.{Input, Directory, Output}
 use Rattle.sv_run.specs.Transfers.{IsLong}
 
 apart : (r : Result Script BadLine) (s : Script) (b : BadLine) → r ≡ Ok s → r ≡ Err b → ⊥
@@ -21,15 +25,36 @@ not_long : (left : Option (List ℕ)) (script : Script) → IsSomeAnd left (IsSc
 not_long None script h k = h
 not_long (Some bytes) script h k = absurd (omega (arith, h.few, k))
 
-pub completes : (words : List (List ℕ)) (left : Option (List ℕ)) (before now : ℕ) (old new : Option (List ℕ)) (writes_before writes_now : ℕ) (stands : Option Done) (answer : Status) → Ends words left before now old new writes_before writes_now stands answer → Completes words left before now writes_before writes_now answer
-completes words left before now old new wb wn stands status.Ok e are script holds reads writes = inl refl
-completes words left before now old new wb wn stands status.OutOfMemory e are script holds reads writes = inr refl
-completes words left before now old new wb wn None status.Usage e are script holds reads writes = absurd (e.0 are)
-completes words left before now old new wb wn (Some done) status.Usage e are script holds reads writes = absurd (e.0.1)
-completes words left before now old new wb wn None (status.BadScript bad) e are script holds reads writes = absurd (not_bad left script bad holds e.0.1)
-completes words left before now old new wb wn (Some done) (status.BadScript bad) e are script holds reads writes = absurd (e.0.1)
-completes words left before now old new wb wn None status.ScriptTooLong e are script holds reads writes = absurd (not_long left script holds e.0.1)
-completes words left before now old new wb wn (Some done) status.ScriptTooLong e are script holds reads writes = absurd (e.0.1)
-completes words left before now old new wb wn None status.ReadFault e are script holds reads writes = absurd (reads e.0.1)
-completes words left before now old new wb wn (Some done) status.ReadFault e are script holds reads writes = absurd (e.0.1)
-completes words left before now old new wb wn stands status.WriteFault e are script holds reads writes = absurd (writes e.rose)
+some_left : (l : List ℕ) → (l ≡ [] → ⊥) → 1 ≤ length l
+some_left [] h = absurd (h refl)
+some_left (x ∷ l) h = omega arith
+
+not_clean : end.DirFault ≡ end.Clean → ⊥
+not_clean e = cc
+
+-- a close that failed at the directory failed at some number
+rose_at_close : (ended : End) (left : List ℕ) (told before now : ℕ) → ended ≡ end.DirFault → ((left ≡ []) → ended ≡ end.Clean) → RoseBy (told + faults_at_close ended left) before now → Rose before now
+rose_at_close ended left told before now is clean rose =
+    let some = some_left left (λ none. not_clean (sym is ∙ clean none)) in
+    let all = subst (λ z. RoseBy (told + faults_at_close z left) before now) is rose in
+    omega (arith, some, all)
+
+closed_fault : (i : Input) (d : Directory) (done : Done) → IsDoneAs end.DirFault i d done → Rose d.before d.now
+closed_fault i d done h =
+    let ran = h.is.ran.ran in
+    rose_at_close done.end (left_of done) _ d.before d.now h.close ran.clean.1 ran.faults
+
+pub completes : (i : Input) (d : Directory) (o : Output) (stands : Option Done) (answer : Status) → Ends i d o stands answer → Completes i d o answer
+completes i d o stands status.Ok e are script holds reads asks writes = inl refl
+completes i d o stands status.OutOfMemory e are script holds reads asks writes = inr refl
+completes i d o None status.Usage e are script holds reads asks writes = absurd (e.0.0 are)
+completes i d o (Some done) status.Usage e are script holds reads asks writes = absurd (e.0.1)
+completes i d o None (status.BadScript bad) e are script holds reads asks writes = absurd (not_bad i.left script bad holds e.0.1.0)
+completes i d o (Some done) (status.BadScript bad) e are script holds reads asks writes = absurd (e.0.1)
+completes i d o None status.ScriptTooLong e are script holds reads asks writes = absurd (not_long i.left script holds e.0.1.0)
+completes i d o (Some done) status.ScriptTooLong e are script holds reads asks writes = absurd (e.0.1)
+completes i d o None status.ReadFault e are script holds reads asks writes = absurd (reads e.0.1.0)
+completes i d o (Some done) status.ReadFault e are script holds reads asks writes = absurd (e.0.1)
+completes i d o None status.DirFault e are script holds reads asks writes = absurd (asks e.0.1.rose)
+completes i d o (Some done) status.DirFault e are script holds reads asks writes = absurd (asks (closed_fault i d done e.0.1))
+completes i d o stands status.WriteFault e are script holds reads asks writes = absurd (writes e.rose)

@@ -1,60 +1,114 @@
 -- From the lines that were answered to a run that is done.
-use Rattle.std.proofs.Common.{◌≡◌, ◌↔◌, ℕ, zero, suc, Bool, true, false, IsTrue, List, [], ◌∷◌, length, map, get_or, Some, refl, sym, ◌∙◌, ap, subst, arith}
-use Rattle.std.specs.Prelude.{codes}
-use Rattle.std.proofs.lemmas.List.{append-nil}
-use Rattle.sv_model.specs.declared.Write.{Write}
+use Rattle.std.proofs.Common.{◌≡◌, ◌≤◌, ◌↔◌, ℕ, List, [], ◌∷◌, length, map, Option, Some, None, refl, ◌∙◌, ap, subst, arith}
+use Rattle.std.specs.Prelude.{IfSome}
+use Rattle.sv_model.specs.declared.End.{End}
+use Rattle.sv_model.specs.declared.End.TheVariants as end
+use Rattle.sv_model.specs.Faults.{RoseBy}
 use Rattle.sv_model.specs.Journal.{change_of}
-use Rattle.sv_model.specs.Registers.{GoesOn}
+use Rattle.sv_model.specs.Summaries.{obsolete_of}
 use Rattle.sv_model.specs.Books.{Books}
-use Rattle.sv_model.specs.After.{After, KeepsSuper, KeepsMemtable, KeepsList, KeepsVersion}
+use Rattle.sv_model.specs.After.{After}
+use Rattle.sv_dir.specs.Files.{Files}
 use Rattle.sv_script.specs.declared.Script.{Script}
 use Rattle.sv_script.specs.declared.Reply.{Reply}
 use Rattle.sv_script.specs.declared.LaneReport.{LaneReport}
-use Rattle.sv_run.specs.Ends.{AreRun, HasRun}
-use Rattle.sv_run.specs.FirstBooks.{first_books}
+use Rattle.sv_script.specs.Answered.{answered, faults_told}
+use Rattle.sv_plain.specs.Closed.{EndsAs, IsClosed}
+use Rattle.sv_plain.specs.Held.{Both, GoneAreAbsent, Holds, OthersStay}
+use Rattle.sv_plain.specs.Store.{IsNumberedFrom}
+use Rattle.sv_run.specs.declared.outcomes.Done.{Done}
+use Rattle.sv_run.specs.Ends.{HasRun, LeavesFiles, faults_at_close}
+use Rattle.sv_run.specs.Openings.{IsAbove}
+use Rattle.sv_run.specs.States.{State, LeavesOthers}
 use Rattle.sv_run.specs.Told.{Played}
+use Rattle.sv_run.proofs.Keeping.{others-on, rose-on}
 
-head : (x y : List ℕ) → x ∷ [] ≡ y ∷ [] → x ≡ y
-head x y e = cc
+-- ---- how close ended
 
--- a list of one word
-pub one_word : {A : Type 0} (f : A → List ℕ) (words : List A) (w : A) (r : Bool) → length words ≡ 1 → w ≡ get_or words 0 w → IsTrue r ↔ (f w ≡ codes "run") → IsTrue r ↔ AreRun (map f words)
-one_word f [] w r e is h = absurd (omega (arith, e))
-one_word f (x ∷ []) w r e is h = (λ t. ap (λ z. z ∷ []) (ap f (sym is) ∙ h.0 t), λ a. h.1 (ap f is ∙ head (f x) (codes "run") a))
-one_word f (x ∷ y ∷ zs) w r e is h = absurd (omega (arith, e))
+some_left : (l : List ℕ) → 1 ≤ length l → l ≡ [] → ⊥
+some_left l some none = absurd (omega (arith, some, ap length none))
 
-goes_on-one : {A : Type 0} (R : A → A → Type 0) (x y : A) → R x y → GoesOn R (x ∷ []) (y ∷ [])
-goes_on-one R x y r zero z at = absurd (cc)
-goes_on-one R x y r (suc zero) z at = (y, refl, subst (λ w. R w y) (same x z at) r)
-  where
-    same : {A : Type 0} (x z : A) → Some x ≡ Some z → x ≡ z
-    same x z e = cc
-goes_on-one R x y r (suc (suc n)) z at = absurd (cc)
+clean_is : (ended : End) (b : Books) (before now : ℕ) → EndsAs ended b before now → (ended ≡ end.Clean) ↔ (obsolete_of b.files.numbers ≡ [])
+clean_is end.Clean b before now h = (λ e. h, λ none. refl)
+clean_is end.DirFault b before now h = (λ e. absurd (cc), λ none. absurd (some_left (obsolete_of b.files.numbers) h.0 none))
+clean_is end.OutOfMemory b before now h = (λ e. absurd (cc), λ none. absurd (some_left (obsolete_of b.files.numbers) h none))
 
--- closing goes on from the open store
-after-close : (journal : List Write) → After (first_books false journal) (first_books true journal)
-after-close journal = record {
-  journal = ([], sym (append-nil journal));
-  supers = goes_on-one KeepsSuper _ _ (record { descriptor = refl; place = refl; gone = λ h. refl });
-  memtables = goes_on-one KeepsMemtable _ _ (record { family = refl; first = refl; cell = refl; gone = λ h. refl });
-  lists = goes_on-one KeepsList _ _ (record { members = refl; gone = λ h. refl });
-  versions = goes_on-one KeepsVersion _ _ (record { files = refl; gone = λ h. h });
-  next = omega arith;
+rose_at_close : (ended : End) (b : Books) (before now : ℕ) → EndsAs ended b before now → before ≤ now → RoseBy (faults_at_close ended (obsolete_of b.files.numbers)) before now
+rose_at_close end.Clean b before now h later = omega arith
+rose_at_close end.DirFault b before now h later = h.1
+rose_at_close end.OutOfMemory b before now h later = omega arith
+
+-- ---- the files that are left
+
+-- what close does to the store, and to the directory that had these files and has those
+pub record Closes (now closed : Books) (files later : Option Files) : Type 0 where
+  pub is : IsClosed closed
+  pub journal : closed.journal ≡ now.journal
+  pub after : After now closed
+  pub numbered : (first : ℕ) → IsNumberedFrom first now → IsNumberedFrom first closed
+  pub holds : Both (λ before after. Holds now before → Holds closed after) files later
+  pub others : LeavesOthers closed files later
+  pub gone : Both (λ before after. GoneAreAbsent closed.files.numbers after) files later
+
+leaves_files : (now closed : Books) (first : ℕ) (o p q : Option Files) → Closes now closed p q → Both (OthersStay now.files.numbers) o p → ((f : Files) → p ≡ Some f → Holds now f) → IfSome o (IsAbove first) → IsNumberedFrom first closed → Both (LeavesFiles closed) o q
+leaves_files now closed first None None None c others held above numbered = tt
+leaves_files now closed first None None (Some h) c others held above numbered = absurd (c.others)
+leaves_files now closed first None (Some g) q c others held above numbered = absurd others
+leaves_files now closed first (Some f) None q c others held above numbered = absurd others
+leaves_files now closed first (Some f) (Some g) None c others held above numbered = absurd (c.others)
+leaves_files now closed first (Some f) (Some g) (Some h) c others held above numbered = record {
+  holds = c.holds (held g refl);
+  gone = c.gone;
+  others = others-on now.files.numbers closed.files.numbers c.after.numbers f g h others c.others;
+  above = λ name n there named k d at. let low = above name n there named in let high = numbered.all k d at in omega (arith, low, high);
 }
 
-pub has_run : (script : Script) (books closed : Books) (replies : List (ℕ × Reply)) (lanes : List LaneReport) → Played books script.lines replies → closed ≡ first_books true books.journal → lanes ≡ record { lane = 1; replies = replies; counts = record { uses = 0; misses = 0; swept = 0 } } ∷ [] → HasRun script (record { books = closed; lanes = lanes })
-has_run script books closed replies lanes played is one =
+-- ---- the run
+
+pub has_run : (start now : State) (closed : Books) (later : Option Files) (faults first : ℕ) (ended : End) (script : Script) (replies : List (ℕ × Reply)) (lanes : List LaneReport)
+    → Played start now script.lines replies → start.books.files.next ≡ first → IfSome start.files (IsAbove first) → Closes now.books closed now.files later → EndsAs ended closed now.faults faults → now.faults ≤ faults
+    → lanes ≡ record { lane = 1; replies = replies; counts = record { uses = 0; misses = 0; swept = 0 } } ∷ []
+    → HasRun (record { files = start.files; later = later; before = start.faults; now = faults }) script (record { books = closed; lanes = lanes; end = ended })
+has_run start now closed later faults first ended script replies lanes played next above c ends more one =
     let told = played.told in
-    let journal : closed.journal ≡ books.journal = ap (λ (z : Books). z.journal) is in
+    let numbered : IsNumberedFrom first closed = c.numbered first (subst (λ n. IsNumberedFrom n now.books) next told.numbered) in
     record {
       lane = record { lane = 1; replies = replies; counts = record { uses = 0; misses = 0; swept = 0 } };
       ran = record {
         lanes = one;
         lane_is = refl;
         numbers = played.numbers;
-        fits = told.fits closed (subst (λ z. After z closed) (sym told.one_lane.opened) (subst (λ z. After (first_books false books.journal) z) (sym is) (after-close books.journal)));
-        journal = ap (map change_of) journal ∙ told.journal;
+        fits = told.fits closed c.after;
+        journal = ap (map change_of) c.journal ∙ told.journal;
         cuts = told.cuts;
-        closed = is ∙ ap (first_books true) (sym journal);
+        closed = c.is;
+        clean = clean_is ended closed now.faults faults ends;
+        files = leaves_files now.books closed first start.files now.files later c told.others told.ready.held above numbered;
+        faults = rose-on (faults_told (answered script.lines replies)) (faults_at_close ended (obsolete_of closed.files.numbers)) start.faults now.faults faults told.faults (rose_at_close ended closed now.faults faults ends more);
       };
     }
+
+rose_earlier : (n before start now : ℕ) → before ≤ start → RoseBy n start now → RoseBy n before now
+rose_earlier n before start now le rose = omega (arith, le, rose)
+
+ran_from : (files later : Option Files) (before start now : ℕ) (script : Script) (done : Done) → before ≤ start → HasRun (record { files = files; later = later; before = start; now = now }) script done → HasRun (record { files = files; later = later; before = before; now = now }) script done
+ran_from files later before start now script done le h = record {
+  lane = h.lane;
+  ran = record {
+    lanes = h.ran.lanes;
+    lane_is = h.ran.lane_is;
+    numbers = h.ran.numbers;
+    fits = h.ran.fits;
+    journal = h.ran.journal;
+    cuts = h.ran.cuts;
+    closed = h.ran.closed;
+    clean = h.ran.clean;
+    files = h.ran.files;
+    faults = rose_earlier _ before start now le h.ran.faults;
+  };
+}
+
+-- the same from before the opening, which left the files
+pub ran_opened : (files opened later : Option Files) (before start now : ℕ) (script : Script) (done : Done) → opened ≡ files → before ≤ start → HasRun (record { files = opened; later = later; before = start; now = now }) script done → HasRun (record { files = files; later = later; before = before; now = now }) script done
+ran_opened files opened later before start now script done same le h =
+    subst (λ (f : Option Files). HasRun (record { files = f; later = later; before = before; now = now }) script done) same (ran_from opened later before start now script done le h)

@@ -1,28 +1,66 @@
 -- A text that is written whole or in part ends the run.
-use Rattle.std.proofs.Common.{ℕ, List, Option, Some, None}
-use Rattle.std.specs.Io.KnownBytes.{Appends}
+use Rattle.std.proofs.Common.{◌≡◌, ℕ, List, Option, Some, None, arith, inl, refl}
+use Rattle.sv_model.specs.declared.End.{End}
+use Rattle.sv_model.specs.declared.End.TheVariants as end
 use Rattle.sv_run.specs.declared.outcomes.Done.{Done}
 use Rattle.sv_run.specs.declared.outcomes.Status.{Status}
 use Rattle.sv_run.specs.declared.outcomes.Status.TheVariants as status
-use Rattle.sv_run.specs.Ends.{Follows, Ends, due_text}
+use Rattle.sv_run.specs.Ends.{Comes, Follows, Ends, IsDone, IsDueText, IsWhole, IsShort}
+use Rattle.sv_run.specs.RunWords.{AreRun}
+use Rattle.sv_run.specs.Statuses.{status_at}
+use Rattle.sv_run.specs.Handed.{Input, Directory, Output, IsUntouched}
 
-pub ends-whole : (words : List (List ℕ)) (left : Option (List ℕ)) (before now : ℕ) (old new : Option (List ℕ)) (wb wn : ℕ) (stands : Option Done) (due : Status) → Follows words left before now stands due → Appends old new (due_text stands due) → Ends words left before now old new wb wn stands due
-ends-whole words left before now old new wb wn stands status.Ok f a = (f, a)
-ends-whole words left before now old new wb wn stands status.Usage f a = (f, a)
-ends-whole words left before now old new wb wn stands (status.BadScript bad) f a = (f, a)
-ends-whole words left before now old new wb wn stands status.ScriptTooLong f a = (f, a)
-ends-whole words left before now old new wb wn stands status.ReadFault f a = (f, a)
-ends-whole words left before now old new wb wn None status.WriteFault f a = absurd (f.1)
-ends-whole words left before now old new wb wn (Some done) status.WriteFault f a = absurd (f.1)
-ends-whole words left before now old new wb wn stands status.OutOfMemory f a = (f, a)
+pub ends-whole : (i : Input) (d : Directory) (o : Output) (stands : Option Done) (due : Status) → Follows i d stands due → IsWhole o stands due → Ends i d o stands due
+ends-whole i d o stands status.Ok f w = (f, w)
+ends-whole i d o stands status.Usage f w = (f, w)
+ends-whole i d o stands (status.BadScript bad) f w = (f, w)
+ends-whole i d o stands status.ScriptTooLong f w = (f, w)
+ends-whole i d o stands status.ReadFault f w = (f, w)
+ends-whole i d o None status.WriteFault f w = absurd (f.1)
+ends-whole i d o (Some done) status.WriteFault f w = absurd (f.1)
+ends-whole i d o stands status.DirFault f w = (f, w)
+ends-whole i d o stands status.OutOfMemory f w = (f, w)
+
+-- nothing was asked of the directory, so it has its files
+pub short-untouched : (d : Directory) → IsUntouched d → IsShort d
+short-untouched d h = record { later = omega (arith, h.calm); kept = h.kept }
 
 -- memory may be wanted for any text
-pub follows-memory : (words : List (List ℕ)) (left : Option (List ℕ)) (before now : ℕ) (stands : Option Done) (due : Status) → Follows words left before now stands due → Follows words left before now stands status.OutOfMemory
-follows-memory words left before now None due f = tt
-follows-memory words left before now (Some done) status.Ok f = f
-follows-memory words left before now (Some done) status.Usage f = absurd (f.1)
-follows-memory words left before now (Some done) (status.BadScript bad) f = absurd (f.1)
-follows-memory words left before now (Some done) status.ScriptTooLong f = absurd (f.1)
-follows-memory words left before now (Some done) status.ReadFault f = absurd (f.1)
-follows-memory words left before now (Some done) status.WriteFault f = absurd (f.1)
-follows-memory words left before now (Some done) status.OutOfMemory f = f
+pub follows-memory : (i : Input) (d : Directory) (stands : Option Done) (due : Status) → Follows i d stands due → Follows i d stands status.OutOfMemory
+follows-memory i d None status.Ok f = absurd (f.1)
+follows-memory i d None status.Usage f = short-untouched d f.1
+follows-memory i d None (status.BadScript bad) f = short-untouched d f.1.1
+follows-memory i d None status.ScriptTooLong f = short-untouched d f.1.1
+follows-memory i d None status.ReadFault f = short-untouched d f.1.1
+follows-memory i d None status.WriteFault f = absurd (f.1)
+follows-memory i d None status.DirFault f = record { later = f.1.later; kept = f.1.kept }
+follows-memory i d None status.OutOfMemory f = f
+follows-memory i d (Some done) status.Ok f = (f.0, f.1.is)
+follows-memory i d (Some done) status.Usage f = absurd (f.1)
+follows-memory i d (Some done) (status.BadScript bad) f = absurd (f.1)
+follows-memory i d (Some done) status.ScriptTooLong f = absurd (f.1)
+follows-memory i d (Some done) status.ReadFault f = absurd (f.1)
+follows-memory i d (Some done) status.WriteFault f = absurd (f.1)
+follows-memory i d (Some done) status.DirFault f = (f.0, f.1.is)
+follows-memory i d (Some done) status.OutOfMemory f = f
+
+-- the text for want of memory serves any run that came to its text
+pub short_due : (stands : Option Done) (text : List ℕ) → IsDueText None status.OutOfMemory text → IsDueText stands status.OutOfMemory text
+short_due None text is = is
+short_due (Some done) text is = inl is
+
+-- words that are taken come to their text
+pub follows-comes : (i : Input) (d : Directory) (stands : Option Done) (due : Status) → AreRun i.words → Comes i d stands due → Follows i d stands due
+follows-comes i d None status.Usage are h = absurd h
+follows-comes i d None status.OutOfMemory are h = h
+follows-comes i d None due are h = (are, h)
+follows-comes i d (Some done) due are h = (are, h)
+
+-- a run that was closed ends as its close did
+pub follows-closed : (i : Input) (d : Directory) (done : Done) → AreRun i.words → IsDone i d done → Follows i d (Some done) (status_at done.end)
+follows-closed i d done are h = at done.end refl
+  where
+    at : (ended : End) → done.end ≡ ended → Follows i d (Some done) (status_at ended)
+    at end.Clean is = (are, record { close = is; is = h })
+    at end.DirFault is = (are, record { close = is; is = h })
+    at end.OutOfMemory is = (are, h)

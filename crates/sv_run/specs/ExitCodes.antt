@@ -10,4 +10,5 @@ exit_code_of (status.BadScript bad) = 3
 exit_code_of status.ScriptTooLong = 4
 exit_code_of status.ReadFault = 5
 exit_code_of status.WriteFault = 6
+exit_code_of status.DirFault = 7
 exit_code_of status.OutOfMemory = 8

@@ -1,8 +1,11 @@
-pub mod Bears
 pub mod Ends
 pub mod ExitCodes
-pub mod FirstBooks
+pub mod Handed
 pub mod Memory
+pub mod Openings
+pub mod RunWords
+pub mod States
+pub mod Statuses
 pub mod Steps
 pub mod Stops
 pub mod Told

@@ -1,33 +1,45 @@
--- What one command does to the first store, and what its reply then fits.
-use Rattle.std.specs.Prelude.{◌≡◌, ◌≤◌, ◌++◌, ℕ, List, Option, Some, None, map, length, false, All}
-use Rattle.sv_model.specs.declared.Write.{Write}
-use Rattle.sv_model.specs.Journal.{Change}
+-- What one command does to the store and its directory, and what its reply then fits.
+use Rattle.std.specs.Prelude.{◌≡◌, ◌<◌, ◌≤◌, ◌++◌, ℕ, List, Option, Some, None, map, length, is_some}
+use Rattle.sv_model.specs.Journal.{change_of}
+use Rattle.sv_model.specs.Ranges.{reach_of}
 use Rattle.sv_model.specs.Books.{Books}
 use Rattle.sv_model.specs.After.{After}
+use Rattle.sv_model.specs.Faults.{RoseBy}
 use Rattle.sv_script.specs.declared.Command.{Command}
 use Rattle.sv_script.specs.declared.Reply.{Reply}
 use Rattle.sv_script.specs.declared.Reply.TheVariants as reply
-use Rattle.sv_script.specs.Answered.{Answered, accepted, change_asked, seen, newest_serial, shown_by, serial_by}
+use Rattle.sv_script.specs.Answered.{Answered, change_asked, seen, newest_serial, flushed, newest_file, shown_by, serial_by, flushed_by, file_by, fault_by}
 use Rattle.sv_script.specs.ReplyLaw.{ReplyFits, CutIs}
-use Rattle.sv_run.specs.FirstBooks.{first_books, first_write}
-use Rattle.sv_run.specs.Bears.{IsFirst}
+use Rattle.sv_plain.specs.Store.{IsNumberedFrom, last_files, write_count}
+use Rattle.sv_run.specs.States.{State, IsReady, LeavesOthers}
 
--- the first store while it is open, and each of its writes
-pub record IsOneLane (books : Books) : Type 0 where
-  pub opened : books ≡ first_books false books.journal
-  pub each : All IsFirst books.journal
+-- What the lane was shown is no more than the books have.
+pub record Knows (books : Books) (earlier : List Answered) : Type 0 where
+  pub writes : seen earlier ≤ write_count books
+  pub serial : newest_serial earlier ≤ length books.supers
+  pub reach : flushed earlier ≤ reach_of (last_files books)
+  pub file : newest_file earlier < books.files.next
 
-abbrev pub writes_of : List Change → List Write
-writes_of changes = map (λ c. first_write c.key c.op) changes
+-- the same of one reply
+pub record IsShown (books : Books) (r : Reply) : Type 0 where
+  pub writes : shown_by r ≤ write_count books
+  pub serial : serial_by r ≤ length books.supers
+  pub reach : flushed_by r ≤ reach_of (last_files books)
+  pub file : file_by r < books.files.next
 
--- The accepted write is added and nothing else changes. The reply fits all books that come after, whatever
--- the lane was answered before, so far as it knew of these books.
-pub record Steps (old new : Books) (command : Command) (reply : Reply) : Type 0 where
-  pub books : new ≡ record old { journal = old.journal ++ writes_of (change_asked command reply) }
-  pub shown : shown_by reply ≤ length new.journal
-  pub serial : serial_by reply ≤ 1
-  pub cut : CutIs (length old.journal) reply
-  pub fits : (earlier : List Answered) → length (accepted earlier) ≡ length old.journal → seen earlier ≤ length old.journal → newest_serial earlier ≤ 1 → (later : Books) → After new later → ReplyFits later 0 earlier command reply
+-- The accepted write is added. The reply fits all books that come after, whatever the lane was answered before,
+-- so far as it knew of these books.
+pub record Steps (old new : State) (command : Command) (r : Reply) : Type 0 where
+  pub ready : IsReady new
+  pub after : After old.books new.books
+  pub journal : map change_of new.books.journal ≡ map change_of old.books.journal ++ change_asked command r
+  pub numbered : (first : ℕ) → IsNumberedFrom first old.books → IsNumberedFrom first new.books
+  pub others : LeavesOthers new.books old.files new.files
+  pub later : old.faults ≤ new.faults
+  pub faults : RoseBy (fault_by r) old.faults new.faults
+  pub shown : IsShown new.books r
+  pub cut : CutIs (length old.books.journal) r
+  pub fits : (earlier : List Answered) → Knows old.books earlier → (later : Books) → After new.books later → ReplyFits (is_some old.files) later 0 earlier command r
 
 -- the reply to a get that found this
 abbrev pub get_reply : Option (List ℕ) → ℕ → ℕ → Reply

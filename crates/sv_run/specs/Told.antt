@@ -1,25 +1,31 @@
--- What the one lane was answered so far, over the first store.
-use Rattle.std.specs.Prelude.{◌≡◌, ◌≤◌, List, ℕ, map, length}
+-- What the one lane was answered so far.
+use Rattle.std.specs.Prelude.{◌≡◌, ◌≤◌, List, ℕ, map, is_some}
 use Rattle.sv_model.specs.Journal.{change_of}
 use Rattle.sv_model.specs.Books.{Books}
 use Rattle.sv_model.specs.After.{After}
+use Rattle.sv_model.specs.Faults.{RoseBy}
 use Rattle.sv_script.specs.declared.Line.{Line}
 use Rattle.sv_script.specs.declared.Reply.{Reply}
-use Rattle.sv_script.specs.Answered.{Answered, answered, accepted, seen, newest_serial}
+use Rattle.sv_script.specs.Answered.{Answered, answered, accepted, faults_told}
 use Rattle.sv_script.specs.ReplyLaw.{RepliesFit, GetsSeeAll}
-use Rattle.sv_run.specs.Steps.{IsOneLane}
+use Rattle.sv_plain.specs.Store.{IsNumberedFrom}
+use Rattle.sv_run.specs.States.{State, IsReady, LeavesOthers}
+use Rattle.sv_run.specs.Steps.{Knows}
 
--- The journal is exactly the accepted writes. The replies fit all books that come after, and each get
--- looked at just the writes before it.
-pub record Told (books : Books) (all : List Answered) : Type 0 where
-  pub one_lane : IsOneLane books
-  pub journal : map change_of books.journal ≡ accepted all
-  pub seen_is : seen all ≤ length books.journal
-  pub serial : newest_serial all ≤ 1
+-- Since the start the journal is exactly the accepted writes. The replies fit all books that come after, and each
+-- get looked at just the writes before it. The directory failed at least as often as the lane was told.
+pub record Told (start now : State) (all : List Answered) : Type 0 where
+  pub ready : IsReady now
+  pub journal : map change_of now.books.journal ≡ accepted all
+  pub numbered : IsNumberedFrom start.books.files.next now.books
+  pub others : LeavesOthers now.books start.files now.files
+  pub later : start.faults ≤ now.faults
+  pub faults : RoseBy (faults_told all) start.faults now.faults
+  pub knows : Knows now.books all
   pub cuts : GetsSeeAll all
-  pub fits : (later : Books) → After books later → RepliesFit later 0 all
+  pub fits : (later : Books) → After now.books later → RepliesFit (is_some start.files) later 0 all
 
 -- Each line has one reply, in order, and the lane was told so.
-pub record Played (books : Books) (lines : List Line) (replies : List (ℕ × Reply)) : Type 0 where
+pub record Played (start now : State) (lines : List Line) (replies : List (ℕ × Reply)) : Type 0 where
   pub numbers : map (λ (r : ℕ × Reply). r.0) replies ≡ map (λ line. line.line) lines
-  pub told : Told books (answered lines replies)
+  pub told : Told start now (answered lines replies)

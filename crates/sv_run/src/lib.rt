@@ -1,10 +1,11 @@
-//! The top call: a script from a source, its report to a sink.
+//! The top call: a script from a source, its report to a sink, over a directory of table files.
 #![tactic(auto)]
 
 mod answers;
+mod closing;
 mod memory;
+mod opening;
 mod outcomes;
-mod plain;
 mod playing;
 mod scripts;
 mod standard;
@@ -12,10 +13,12 @@ mod stops;
 mod streams;
 mod top;
 mod transfers;
+mod words;
 
 pub use memory::{MemSink, MemSource};
 pub use outcomes::{Done, Ran, Status};
-pub use plain::{Got, Plain};
 pub use standard::{StdSink, StdSource};
 pub use streams::{Failed, Sink, Source};
+pub use sv_plain::{Got, Plain};
 pub use top::{run, run_without_memory};
+pub use words::dir_word;

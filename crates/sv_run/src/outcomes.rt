@@ -1,12 +1,13 @@
 // How a run ends.
-use crate::plain::Plain;
-use sv_model::Items;
+use sv_model::{End, Items};
+use sv_plain::Plain;
 use sv_script::{BadLine, LaneReport};
 
 /// How a run ended.
 #[derive(Clone, Copy, Debug, PartialEq, Eq)]
 pub enum Status {
-    /// The script was read to its end, every line was answered, and the report was written whole.
+    /// The script was read to its end, every line was answered, each file that was to go is gone, and the report
+    /// was written whole.
     Ok,
     /// The words are none that the program takes.
     Usage,
@@ -18,6 +19,8 @@ pub enum Status {
     ReadFault,
     /// The sink failed. A front of the text that was due is written.
     WriteFault,
+    /// The directory failed: before any lane ran, or at files that were to go at the end.
+    DirFault,
     /// Memory was wanted and not had.
     OutOfMemory,
 }
@@ -37,21 +40,31 @@ impl Status {
             Status::ScriptTooLong => 4,
             Status::ReadFault => 5,
             Status::WriteFault => 6,
+            Status::DirFault => 7,
             Status::OutOfMemory => 8,
         }
     }
 }
 
-/// What stands after the lanes ran to the end of the script.
+/// What stands after the lanes ran to the end of the script and the store was closed.
 #[derive(Drop)]
 pub struct Done {
     pub books: Plain,
     pub lanes: Items<LaneReport>,
+    pub end: End,
 }
 
-/// How a run ended, and what stands where the lanes ran.
+/// How a run came to its end, before the directory is handed back.
 #[derive(Drop)]
-pub struct Ran {
+pub(crate) struct Ended {
     pub status: Status,
     pub done: Option<Done>,
+}
+
+/// How a run ended, what stands where the lanes ran, and the directory that it was handed.
+#[derive(Drop)]
+pub struct Ran<D> {
+    pub status: Status,
+    pub done: Option<Done>,
+    pub dir: D,
 }

@@ -1,11 +1,13 @@
-//! `svrun run` reads a script from standard input and writes the report to standard output.
+//! `svrun run` reads a script from standard input, runs it over a folder or a directory in memory, and writes the
+//! report to standard output.
 #![tactic(auto)]
 
 use std::alloc::AllocError;
 use std::env;
 use std::io::ErrorKind;
 use std::process::ExitCode;
-use sv_run::{StdSink, StdSource, run, run_without_memory};
+use sv_dir::{MemDir, RealDir};
+use sv_run::{Status, StdSink, StdSource, dir_word, run, run_without_memory};
 
 // The words after the program's name. Where they are not all text there are none, which the program does not take.
 fn words(rt: &HostRuntime) -> Result<Vec<String>, AllocError> {
@@ -21,12 +23,47 @@ fn words(rt: &HostRuntime) -> Result<Vec<String>, AllocError> {
     Ok(words)
 }
 
-fn main(rt: HostRuntime) -> ExitCode {
+// There was no memory for what the run is handed, so it is handed a folder that it asks nothing.
+fn run_short(rt: HostRuntime, sink: &mut StdSink<HostRuntime>) -> Status {
+    let unasked = RealDir::new(rt, rt.alloc(), String::new(rt.alloc()));
+    run_without_memory(unasked, sink).status
+}
+
+// The run over the folder at the path.
+fn run_over_folder(
+    rt: HostRuntime,
+    words: &[String],
+    path: &str,
+    sink: &mut StdSink<HostRuntime>,
+) -> Status {
     let mut source = StdSource::new(rt);
+    match path.to_string(rt.alloc()) {
+        Ok(path) => {
+            let folder = RealDir::new(rt, rt.alloc(), path);
+            run(rt.alloc(), words, &mut source, folder, sink).status
+        }
+        Err(_) => run_short(rt, sink),
+    }
+}
+
+// The run over a directory in memory, which is empty.
+fn run_over_memory(rt: HostRuntime, words: &[String], sink: &mut StdSink<HostRuntime>) -> Status {
+    let alloc = rt.alloc();
+    let mut source = StdSource::new(rt);
+    match MemDir::new(alloc, Vec::new(alloc), Vec::new(alloc)) {
+        Ok(empty) => run(alloc, words, &mut source, empty, sink).status,
+        Err(_) => run_short(rt, sink),
+    }
+}
+
+fn main(rt: HostRuntime) -> ExitCode {
     let mut sink = StdSink::new(rt);
-    let ran = match words(&rt) {
-        Ok(words) => run(rt.alloc(), words.as_slice(), &mut source, &mut sink),
-        Err(_) => run_without_memory(&mut sink),
+    let status = match words(&rt) {
+        Ok(words) => match dir_word(words.as_slice()) {
+            Some(path) => run_over_folder(rt, words.as_slice(), path, &mut sink),
+            None => run_over_memory(rt, words.as_slice(), &mut sink),
+        },
+        Err(_) => run_short(rt, &mut sink),
     };
-    ExitCode::from(ran.status.exit_code())
+    ExitCode::from(status.exit_code())
 }
