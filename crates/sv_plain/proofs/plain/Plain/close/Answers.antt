@@ -1,0 +1,18 @@
+-- The numbers and the files after a close, over the store's books.
+use Rattle.std.proofs.Common.{ℕ, subst}
+use Rattle.sv_dir.specs.Files.{Files}
+use Rattle.sv_model.specs.Books.{Books}
+use Rattle.sv_plain.specs.Held.{Both, Holds}
+use Rattle.sv_plain.specs.Store.{IsNumberedFrom}
+use Rattle.sv_plain.specs.Views.{books_of}
+use Rattle.sv_plain.proofs.Wrapping.{numbered_on}
+use Rattle.sv_plain.proofs.plain.Plain.close.Goals as goal
+
+pub returns-clause-numbered : goal.returns-clause-numbered
+returns-clause-numbered g c =
+    subst (λ (b : Books). (first : ℕ) → IsNumberedFrom first b → IsNumberedFrom first (books_of c.close.new.self)) c.self.view_is
+    (λ first. numbered_on (books_of c.self.inside.parts) (books_of c.close.new.self) first c.close.ensures.after c.close.ensures.numbered)
+
+pub returns-clause-holds : goal.returns-clause-holds
+returns-clause-holds g c =
+    subst (λ (b : Books). Both (λ (before after : Files). Holds b before → Holds (books_of c.close.new.self) after) (g.D.Dir.files c.args.dir.now) (g.D.Dir.files c.close.new.dir)) c.self.view_is c.close.ensures.holds

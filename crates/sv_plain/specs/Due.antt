@@ -1,0 +1,87 @@
+-- When the calls of the store are refused, and what a refusal says of the books.
+use Rattle.std.specs.Prelude.{◌≡◌, ℕ, Bool, cond, ◌&&◌, ◌==◌, nat_le, nat_lt, false, [], ◌∷◌, Option, Some, None, length, Result, Err}
+use Rattle.sv_model.specs.declared.Refusal.{Refusal}
+use Rattle.sv_model.specs.declared.Refusal.TheVariants as refusal
+use Rattle.sv_model.specs.Refusals.{first_due}
+use Rattle.sv_model.specs.Moments.{WasStalled, WasFlushed, WereManyMemtables, WereManyLive, WereAllMade, WereAllNumbered, WasCapturedFor}
+use Rattle.sv_model.specs.Ranges.{reach_of}
+use Rattle.sv_model.specs.Books.{Books}
+use Rattle.sv_cells.specs.Calls.{memtables_fault}
+use Rattle.sv_registry.specs.Calls.{full_fault, make_fault}
+use Rattle.sv_files.specs.Calls.{capture_fault}
+use Rattle.sv_plain.specs.Store.{active_rows, immutable_count, last_files, write_count}
+
+-- a refusal that is due only in this case
+abbrev pub only_if : Bool → Option Refusal → Option Refusal
+only_if due fault = cond due fault None
+
+-- ---- writes
+
+-- a write switches first where the active memtable has 1,024 rows
+abbrev pub is_switch_due : Books → Bool
+is_switch_due b = nat_le 1024 (active_rows b)
+
+-- the family has as many immutable memtables as it may have
+abbrev pub stall_fault : Books → Option Refusal
+stall_fault b = cond (nat_le 2 (immutable_count b)) (Some refusal.Stalled) None
+
+-- the refusal that a write meets, in these books
+abbrev pub write_fault : Books → Option Refusal
+write_fault b = only_if (is_switch_due b) (first_due (stall_fault b ∷ memtables_fault b.memtables ∷ make_fault b.supers ∷ []))
+
+-- what a refused write says of the books
+abbrev pub WriteMoment : Books → Refusal → Type 0
+WriteMoment b refusal.Stalled = WasStalled b 0 (reach_of (last_files b))
+WriteMoment b refusal.TooManyMemtables = WereManyMemtables b
+WriteMoment b refusal.RegisterFull = WereAllMade b
+WriteMoment b refusal.TooManyLive = WereManyLive b
+WriteMoment b refusal.OutOfMemory = Unit {0}
+WriteMoment b e = ⊥
+
+-- ---- reads
+
+-- What a refused read says of the books. A file is never bad where the directory tells its files.
+abbrev pub ReadMoment : Bool → Books → Refusal → Type 0
+ReadMoment told b (refusal.DirFault number) = WasCapturedFor b 0 number
+ReadMoment told b (refusal.BadFile number place) = (told ≡ false) × WasCapturedFor b 0 number
+ReadMoment told b refusal.OutOfMemory = Unit {0}
+ReadMoment told b e = ⊥
+
+-- ---- flushes
+
+-- the active memtable has no row, and no immutable memtable waits
+abbrev pub nothing_fault : Books → Option Refusal
+nothing_fault b = cond ((active_rows b == 0) && (immutable_count b == 0)) (Some refusal.NothingToFlush) None
+
+-- the registers of SuperVersions
+abbrev pub all_made_fault : Books → Option Refusal
+all_made_fault b = cond (nat_le 1048576 (length b.supers)) (Some refusal.RegisterFull) None
+
+abbrev pub all_live_fault : Books → Option Refusal
+all_live_fault b = full_fault b.supers
+
+-- a flush switches first where the active memtable has a row
+abbrev pub has_rows : Books → Bool
+has_rows b = nat_lt 0 (active_rows b)
+
+-- the refusal that a flush meets before anything is done, in these books
+abbrev pub flush_fault : Books → Option Refusal
+flush_fault b = first_due (nothing_fault b ∷ capture_fault b.files ∷ only_if (has_rows b) (all_made_fault b)
+    ∷ only_if (has_rows b) (memtables_fault b.memtables) ∷ only_if (has_rows b) (all_live_fault b) ∷ [])
+
+-- what a refused flush says of the books that it leaves
+abbrev pub FlushMoment : Books → Refusal → Type 0
+FlushMoment b refusal.NothingToFlush = WasFlushed b 0 (write_count b)
+FlushMoment b refusal.TooManyMemtables = WereManyMemtables b
+FlushMoment b refusal.RegisterFull = WereAllNumbered b
+FlushMoment b refusal.TooManyLive = WereManyLive b
+FlushMoment b (refusal.DirFault number) = WasCapturedFor b 0 number
+FlushMoment b refusal.OutOfMemory = Unit {0}
+FlushMoment b e = ⊥
+
+-- ---- faults of the directory
+
+-- 1 where the call says that the directory failed
+abbrev pub fault_of : {T : Type 0} → Result T Refusal → ℕ
+fault_of (Err (refusal.DirFault number)) = 1
+fault_of result = 0
