@@ -19,3 +19,6 @@ mod summaries;
 mod switches;
 mod tables;
 mod writes;
+
+pub use plain::Plain;
+pub use reads::Got;
