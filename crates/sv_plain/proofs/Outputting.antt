@@ -3,6 +3,8 @@ use Rattle.std.proofs.Common.{◌≡◌, ◌<◌, ◌≤◌, ◌+◌, ◌⊎◌,
 use Rattle.std.specs.Prelude.{nat_le, unwrap_or, option_map}
 use Rattle.sv_model.specs.declared.FileMeta.{FileMeta}
 use Rattle.sv_model.specs.declared.FileStatus.{FileStatus}
+use Rattle.sv_model.specs.declared.FileStatus.TheVariants.{Obsolete}
+use Rattle.sv_model.specs.declared.SuperVersion.{SuperVersion}
 use Rattle.sv_model.specs.declared.Version.{Version}
 use Rattle.sv_model.specs.declared.Refusal.{Refusal}
 use Rattle.sv_model.specs.declared.Refusal.TheVariants as refusal
@@ -18,10 +20,10 @@ use Rattle.sv_registry.specs.Calls.{make_fault}
 use Rattle.sv_registry.specs.Laws as laws
 use Rattle.sv_plain.specs.declared.parts.Parts.{Parts}
 use Rattle.sv_plain.specs.Due.{FlushMoment}
-use Rattle.sv_plain.specs.Flushing.{IsNumbered, Outputs, SettlesAs}
+use Rattle.sv_plain.specs.Flushing.{IsLeftBehind, IsNumbered, LeftAs, Outputs, SettlesAs}
 use Rattle.sv_plain.specs.Immutables.{ImmutablesJoin}
 use Rattle.sv_plain.specs.Outputs.{IsDueAs, OutputFault}
-use Rattle.sv_plain.specs.Store.{last_files}
+use Rattle.sv_plain.specs.Store.{active_rows, immutable_count, last_files}
 use Rattle.sv_plain.specs.Views.{books_of}
 use Rattle.sv_plain.proofs.Joining.{join_few}
 use Rattle.sv_plain.proofs.Refused.{count_le, files_are}
@@ -120,3 +122,26 @@ pub output_moment : (b : Books) (number : ℕ) (e : Refusal) → Has (IsCaptured
 output_moment b number (refusal.DirFault n) has h = subst (λ k. Has (IsCapturedFor 0 k) b.files.numbers) (sym h) has
 output_moment b number refusal.OutOfMemory has h = tt
 output_moment b number e has h = absurd h
+
+-- ---- what is left
+pub left_behind : (p : Parts) (file : FileMeta) (new : Books) (o : Outputs p file) → SettlesAs (books_of p) new o.before file Obsolete → new ≡ record (books_of p) { files = new.files } → IsLeftBehind (books_of p) new file
+left_behind p file new o s rest = record {
+  obsolete = (length o.before.numbers + 1, _, subst (λ z. entry z (length o.before.numbers + 1) ≡ Some (record { number = file.number; status = Obsolete; family = Some 0 })) (sym s.numbers) (entry-new o.before.numbers _ (length o.before.numbers + 1) refl), record { number_is = refl; status_is = refl });
+  empty = ap active_rows rest;
+  waits = ap immutable_count rest;
+}
+
+pub left_output : (old new : Books) (file : FileMeta) (e : Refusal) → OutputFault file.number e → IsLeftBehind old new file → LeftAs old new file e
+left_output old new file refusal.OutOfMemory h k = tt
+left_output old new file (refusal.DirFault n) h k = (h, k)
+left_output old new file e h k = k
+
+no_fault : (all live : Bool) (n : ℕ) → cond all (Some refusal.RegisterFull) (cond live (Some refusal.TooManyLive) None) ≡ Some (refusal.DirFault n) → ⊥
+no_fault true live n e = absurd (cc)
+no_fault false true n e = absurd (cc)
+no_fault false false n e = absurd (cc)
+
+pub left_made : (old new : Books) (file : FileMeta) (supers : List SuperVersion) (e : Refusal) → IsDue (make_fault supers) e → IsLeftBehind old new file → LeftAs old new file e
+left_made old new file supers refusal.OutOfMemory h k = tt
+left_made old new file supers (refusal.DirFault n) h k = absurd (no_fault _ _ n h)
+left_made old new file supers e h k = k

@@ -1,13 +1,15 @@
 -- What a call does to the books.
-use Rattle.std.specs.Prelude.{◌≡◌, ◌<◌, ◌++◌, ◌+◌, ◌∷◌, ◌⊎◌, [], ℕ, false, List, Option, Some, None, length}
+use Rattle.std.specs.Prelude.{◌≡◌, ◌<◌, ◌++◌, ◌+◌, ◌∷◌, ◌⊎◌, [], ℕ, false, cond, List, Option, Some, None, length}
 use Rattle.sv_model.specs.declared.Write.{Write}
 use Rattle.sv_model.specs.declared.Op.{Op}
 use Rattle.sv_model.specs.declared.FileMeta.{FileMeta}
 use Rattle.sv_model.specs.declared.Refusal.{Refusal}
 use Rattle.sv_model.specs.declared.Refusal.TheVariants as refusal
+use Rattle.sv_model.specs.declared.FileStatus.TheVariants.{Obsolete}
 use Rattle.sv_model.specs.Books.{Books}
 use Rattle.sv_model.specs.Reads.{IsOutput, IsWrite}
-use Rattle.sv_plain.specs.Due.{flush_fault}
+use Rattle.sv_files.specs.Calls.{IsRegistered}
+use Rattle.sv_plain.specs.Due.{flush_fault, has_rows}
 use Rattle.sv_plain.specs.Store.{last_files, active_rows, immutable_count, write_count}
 
 -- The write is added: of the family, by the lane 0, into the memtable that is active then.
@@ -30,13 +32,23 @@ pub record IsFlushed (old new : Books) (file : FileMeta) : Type 0 where
   pub empty : active_rows new ≡ 0
   pub no_list : immutable_count new ≡ 0
 
--- A flush that was refused: before anything was done, as is due, and then nothing changed; or later. Want of memory
--- may stand in place of any. In each case the Version is as it was, and no number was captured but for an output
--- that failed.
+-- The switch is done where the active memtable had a row, the memtables wait, and the number that was captured for
+-- the file is Obsolete.
+pub record LeavesOutput (old new : Books) : Type 0 where
+  pub obsolete : IsRegistered new.files.numbers old.files.next Obsolete
+  pub next : new.files.next ≡ old.files.next + 1
+  pub empty : active_rows new ≡ 0
+  pub waits : immutable_count new ≡ immutable_count old + cond (has_rows old) 1 0
+
+-- A flush that was refused: before anything was done, as is due, and then nothing changed; or later, and then the
+-- output is left. Want of memory may stand in place of any.
 abbrev pub StopsAs : Books → Books → Refusal → Option Refusal → Type 0
 StopsAs old new e (Some first) = ((e ≡ first) ⊎ (e ≡ refusal.OutOfMemory)) × (new ≡ old)
-StopsAs old new e None = Unit {0}
+StopsAs old new refusal.OutOfMemory None = Unit {0}
+StopsAs old new (refusal.DirFault number) None = (number ≡ old.files.next) × LeavesOutput old new
+StopsAs old new e None = LeavesOutput old new
 
+-- In each case the Version is as it was.
 pub record IsStopped (old new : Books) (e : Refusal) : Type 0 where
   pub as_due : StopsAs old new e (flush_fault old)
   pub versions : new.versions ≡ old.versions

@@ -6,7 +6,7 @@ ghost use Rattle.sv_model.specs.Faults.{RoseBy};
 ghost use Rattle.sv_model.specs.Refusals.{Refuses};
 ghost use Rattle.sv_registry.specs.Calls.{make_fault};
 ghost use Rattle.sv_plain.specs.Due.{FlushMoment, fault_of};
-ghost use Rattle.sv_plain.specs.Flushing.{IsFinished, IsNumbered, Outputs, SettlesAs};
+ghost use Rattle.sv_plain.specs.Flushing.{IsFinished, IsNumbered, LeftAs, Outputs, SettlesAs};
 ghost use Rattle.sv_plain.specs.Held.{Both, Holds, OthersStay};
 ghost use Rattle.sv_plain.specs.Settled.{IsFlushed, IsStopped};
 ghost use Rattle.sv_plain.specs.Store.{IsNumberedFrom, active_rows, immutable_count, last_files};
@@ -94,6 +94,7 @@ impl Parts {
         requires { Outputs self.old file }
         ensures flushed { IfOk result (λ f. (f ≡ file) × IsFinished (books_of self.old) (books_of self.new) file) }
         ensures moment { IfErr result (FlushMoment (books_of self.new)) }
+        ensures left { IfErr result (LeftAs (books_of self.old) (books_of self.new) file) }
         ensures versions { OnErr result (self.new.versions ≡ self.old.versions) }
         ensures journal { self.new.journal ≡ self.old.journal }
         ensures numbers { (outputs : Outputs self.old file) → IsNumbered outputs.before (books_of self.new) file }

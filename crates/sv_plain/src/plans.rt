@@ -1,5 +1,5 @@
 // The start of a flush: what it may meet, the switch, and the number of its file.
-ghost use Rattle.std.specs.Prelude.{◌≡◌, ◌<◌, ◌^◌, ◌∷◌, [], None, Some, cond, IfOk, IfErr, OnOk, OnErr, false};
+ghost use Rattle.std.specs.Prelude.{◌≡◌, ◌+◌, ◌<◌, ◌^◌, ◌∷◌, [], None, Some, cond, IfOk, IfErr, OnOk, OnErr, false};
 ghost use Rattle.sv_model.specs.declared.Refusal.TheVariants.{RegisterFull};
 ghost use Rattle.sv_model.specs.After.{After};
 ghost use Rattle.sv_model.specs.Refusals.{RefusesExactly, first_due};
@@ -84,6 +84,7 @@ impl Parts {
         ensures after { After (books_of self.old) (books_of self.new) }
         ensures empty { OnOk result (active_rows (books_of self.new) ≡ 0) }
         ensures waits { OnOk result (0 < immutable_count (books_of self.new)) }
+        ensures counted { OnOk result (immutable_count (books_of self.new) ≡ immutable_count (books_of self.old) + cond (has_rows (books_of self.old)) 1 0) }
     {
         if !self.has_rows() {
             return Ok(());

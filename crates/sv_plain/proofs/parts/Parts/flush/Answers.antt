@@ -12,7 +12,7 @@ returns-in-Ok-clause-flushed c k =
 
 pub returns-in-Ok-clause-stopped : goal.returns-in-Ok-clause-stopped
 returns-in-Ok-clause-stopped c k =
-    stopped_err k.args.self.now k.prepare_flush.new.self k.output.new.self k.in-Ok.file k.output.result k.in-Ok.ensures.prepared k.in-Ok.ensures.planned k.output.ensures.versions
+    stopped_err k.args.self.now k.prepare_flush.new.self k.output.new.self k.in-Ok.file k.output.result k.in-Ok.ensures.prepared k.in-Ok.ensures.planned (k.output.ensures.numbers k.in-Ok.ensures.prepared.outputs) k.output.ensures.left k.output.ensures.versions
 
 pub returns-in-Ok-clause-after : goal.returns-in-Ok-clause-after
 returns-in-Ok-clause-after c k = after_through (books_of k.args.self.now) (books_of k.prepare_flush.new.self) (books_of k.output.new.self) k.in-Ok.ensures.prepared.after k.output.ensures.after

@@ -4,7 +4,7 @@ use Rattle.sv_model.specs.Books.{Books}
 use Rattle.sv_plain.specs.Due.{FlushMoment}
 use Rattle.sv_plain.specs.Store.{last_files}
 use Rattle.sv_plain.specs.Views.{books_of}
-use Rattle.sv_plain.proofs.Outputting.{at_end, captured, due_as, earlier, is_numbered, is_output, make_moment, output_moment}
+use Rattle.sv_plain.proofs.Outputting.{at_end, captured, due_as, earlier, is_numbered, is_output, left_behind, left_made, left_output, make_moment, output_moment}
 use Rattle.sv_plain.proofs.Putting.{holds_left, holds_put, others_put}
 use Rattle.sv_plain.proofs.parts.Parts.output.Goals as goal
 
@@ -77,3 +77,13 @@ pub returns-in-Err-clause-others : goal.returns-in-Err-clause-others
 returns-in-Err-clause-others c k =
     let n = is_numbered k.args.self.now k.args.file (books_of k.stop_output.new.self) _ k.requires (k.stop_output.ensures.settled k.requires) in
     others_put k.stop_output.new.self.files.numbers k.args.file.number _ _ _ _ (at_end k.requires.before (books_of k.stop_output.new.self) k.args.file n) refl k.in-Err.ensures.left
+
+pub returns-in-Err-finish_output-clause-left : goal.returns-in-Err-finish_output-clause-left
+returns-in-Err-finish_output-clause-left c k =
+    left_made (books_of k.args.self.now) (books_of k.finish_output.new.self) k.args.file k.args.self.now.registry k.in-Err-finish_output.refusal k.in-Err-finish_output.ensures.refused
+    (left_behind k.args.self.now k.args.file (books_of k.finish_output.new.self) k.requires (k.in-Err-finish_output.ensures.stopped k.requires) k.in-Err-finish_output.ensures.kept)
+
+pub returns-in-Err-clause-left : goal.returns-in-Err-clause-left
+returns-in-Err-clause-left c k =
+    left_output (books_of k.args.self.now) (books_of k.stop_output.new.self) k.args.file k.in-Err.refusal k.in-Err.ensures.refused
+    (left_behind k.args.self.now k.args.file (books_of k.stop_output.new.self) k.requires (k.stop_output.ensures.settled k.requires) k.stop_output.ensures.rest)
