@@ -1,6 +1,10 @@
 -- What calls of the parts say, of the books that callers see.
 use Rattle.std.proofs.Common.{◌≡◌, ◌≤◌, inl, inr, ℕ, zero, suc, Bool, true, false, List, [], ◌∷◌, ◌++◌, All, Option, Some, None, length, slice_get, refl, sym, ◌∙◌, ap, subst, arith}
+use Rattle.std.specs.Prelude.{unwrap_or, option_map}
 use Rattle.sv_model.specs.declared.FileMeta.{FileMeta}
+use Rattle.sv_model.specs.declared.MemtableList.{MemtableList}
+use Rattle.sv_model.specs.declared.SuperVersion.{SuperVersion}
+use Rattle.sv_model.specs.declared.Version.{Version}
 use Rattle.sv_model.specs.declared.RegisteredFile.{RegisteredFile}
 use Rattle.sv_model.specs.declared.Top.{Top}
 use Rattle.sv_model.specs.After.{After, Continues, KeepsNumber}
@@ -11,13 +15,14 @@ use Rattle.sv_model.specs.Registers.{GoesOn}
 use Rattle.sv_model.proofs.Registers.{entry_le}
 use Rattle.sv_dir.specs.Files.{Files}
 use Rattle.sv_plain.specs.declared.parts.Parts.{Parts}
+use Rattle.sv_plain.specs.Alone.{IsAlone}
 use Rattle.sv_plain.specs.Held.{Holds}
-use Rattle.sv_plain.specs.Store.{IsNumberedFrom, IsOpen, last_files, top_from}
+use Rattle.sv_plain.specs.Store.{IsNumberedFrom, IsOpen, last_files, members_of, top_from}
 use Rattle.sv_plain.specs.Views.{Keeps, Runs, books_of}
 use Rattle.sv_plain.proofs.Ending.{some_entry}
 use Rattle.sv_plain.proofs.FileRanges.{Up, file_at, reach_between}
 use Rattle.sv_plain.proofs.Joining.{join_le}
-use Rattle.sv_plain.proofs.Lasts.{all_entry}
+use Rattle.sv_plain.proofs.Lasts.{all_entry, entry_last, live_last}
 use Rattle.sv_plain.proofs.Owning.{own_family}
 use Rattle.sv_plain.proofs.Putting.{holds_more, holds_same}
 use Rattle.sv_plain.proofs.Refused.{files_are}
@@ -91,3 +96,19 @@ numbered_on a b first after count h = record {
   next = (let n = h.next in let m = after.next in omega (arith, n, m));
   all = numbers_stay a.files.numbers b.files.numbers first count after.numbers h.all;
 }
+
+-- nothing is Live but what the current SuperVersion names
+pub alone : (p : Parts) → Runs p → IsAlone (books_of p)
+alone p r =
+    let s = r.stands in
+    let members : members_of p.lists (length p.lists) ≡ s.lists.last.members =
+        ap (λ (o : Option MemtableList). unwrap_or (option_map (λ it. it.members) o) []) (entry_last (λ (l : MemtableList). l.live) p.lists s.lists (length p.lists) refl) in
+    record {
+      supers = λ n x at live. (live_last (λ (y : SuperVersion). y.live) p.registry s.supers n x at live).0;
+      lists = λ n x at live. (live_last (λ (y : MemtableList). y.live) p.lists s.lists n x at live).0;
+      versions = λ n x at live. (live_last (λ (y : Version). y.live) p.versions s.store.versions n x at live).0;
+      memtables = λ n x at live. elim (s.lives n x at live) [
+        | inl member ↦ inl (subst (λ z. In n z) (sym members) member)
+        | inr active ↦ inr active
+      ];
+    }

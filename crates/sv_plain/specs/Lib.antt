@@ -17,3 +17,4 @@ pub mod Prepared
 pub mod Emptied
 pub mod Removed
 pub mod Taken
+pub mod Alone

@@ -8,6 +8,7 @@ ghost use Rattle.sv_model.specs.Refusals.{Refuses};
 ghost use Rattle.sv_model.specs.Registers.{entry};
 ghost use Rattle.sv_model.specs.Summaries.{summary_of};
 ghost use Rattle.sv_dir.specs.Files.{Files};
+ghost use Rattle.sv_plain.specs.Alone.{IsAlone};
 ghost use Rattle.sv_plain.specs.Closed.{EndsAs, IsClosed};
 ghost use Rattle.sv_plain.specs.Due.{FlushMoment, ReadMoment, WriteMoment, fault_of, write_fault};
 ghost use Rattle.sv_plain.specs.Held.{Both, GoneAreAbsent, Holds, OthersStay};
@@ -44,6 +45,7 @@ impl Plain {
     pub fn new(alloc: Global, next: FileNumber) -> Result<Plain, OutOfMemory>
         requires { 1 ≤ next }
         ensures opened { IfOk result (λ plain. IsOpen plain) }
+        ensures alone { IfOk result (λ plain. IsAlone plain) }
         ensures empty { IfOk result (λ plain. (plain.journal ≡ []) × (last_files plain ≡ [])) }
         ensures numbers { IfOk result (λ plain. (plain.files.numbers ≡ []) × (plain.files.next ≡ next)) }
         ensures own { IfOk result (λ plain. All (λ w. w.family ≡ 0) plain.journal) }
@@ -66,6 +68,7 @@ impl Plain {
         ensures moment { IfErr result (WriteMoment self.new) }
         ensures after { After self.old self.new }
         ensures open { IsOpen self.new }
+        ensures alone { IsAlone self.new }
         ensures own { All (λ w. w.family ≡ 0) self.new.journal }
         ensures files { self.new.files ≡ self.old.files }
         ensures holds { (files : Files) → Holds self.old files → Holds self.new files }
@@ -108,6 +111,7 @@ impl Plain {
         ensures journal { self.new.journal ≡ self.old.journal }
         ensures after { After self.old self.new }
         ensures open { IsOpen self.new }
+        ensures alone { IsAlone self.new }
         ensures own { All (λ w. w.family ≡ 0) self.new.journal }
         ensures numbered { (first : ℕ) → IsNumberedFrom first self.old → IsNumberedFrom first self.new }
         ensures holds { Both (λ before after. Holds self.old before → Holds self.new after) (D.files dir.old) (D.files dir.new) }
