@@ -12,3 +12,4 @@ pub mod Sending
 pub mod Stepping
 pub mod Telling
 pub mod Wording
+mod WorkedRows

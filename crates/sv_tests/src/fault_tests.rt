@@ -1,4 +1,5 @@
 // Streams of which one call fails.
+use crate::directories::empty_dir;
 use crate::runs::{
     PUT_AND_DELETE, PUT_AND_DELETE_REPORT, expect_text, run_over, sink_of, source_of, words_of,
 };
@@ -53,7 +54,13 @@ fn expect_cut(
     let words = words_of(alloc, words)?;
     let mut source = source_of(rt, alloc, script.as_bytes(), 64, &[])?;
     let mut sink = sink_of(rt, alloc, 5, &[2])?;
-    let ran = run(alloc, words.as_slice(), &mut source, &mut sink);
+    let ran = run(
+        alloc,
+        words.as_slice(),
+        &mut source,
+        empty_dir(alloc)?,
+        &mut sink,
+    );
     expect_text(rt, &sink, text);
     assert_eq!(rt; ran.status, Status::WriteFault);
     assert!(rt; ran.done.is_none());

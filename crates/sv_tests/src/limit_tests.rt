@@ -5,41 +5,45 @@ use std::process::Abort;
 use std::test::Fail;
 use sv_run::{MemSource, Status};
 
-const AFTER_THE_ROWS: &str = "1025 refused 18 TooManyMemtables
-1026 found last cut 1024 sv 1
-1027 absent cut 1024 sv 1
-1028 refused 18 TooManyMemtables
-1029 found last cut 1024 sv 1
+const AFTER_THE_ROWS: &str = "3073 refused 15 Stalled
+3074 found last cut 3072 sv 3
+3075 absent cut 3072 sv 3
+3076 refused 15 Stalled
+3077 ok flush file 1 from 0 to 3072
+3078 ok put 3073
+3079 found x cut 3073 sv 5
 lane 1 uses 0 misses 0 swept 0
-family 0 default live writes 1024 files none
-made superversions 1 memtables 1 files 0
-gone superversions 1 memtables 1 files 0
+family 0 default live writes 3073 files 1
+made superversions 5 memtables 4 files 1
+gone superversions 5 memtables 4 files 0
 strays seen 0 gone 0
 end clean
 ";
 
-// 1,024 puts of one key, the last of another value.
+// 3,072 puts of one key, the last of another value: as many rows as three memtables take.
 fn many_puts(alloc: Global) -> Result<String, AllocError> {
-    let mut script = "1 put default a 1\n".repeat(alloc, 1023)?;
+    let mut script = "1 put default a 1\n".repeat(alloc, 3071)?;
     script.push_str("1 put default a last\n")?;
     Ok(script)
 }
 
 fn many_replies(alloc: Global) -> Result<String, AllocError> {
     let mut due = "lane 1\n".to_string(alloc)?;
-    for number in 1..=1024 {
+    for number in 1..=3072 {
         due.push_str(&format!(in alloc; "{number} ok put {number}\n")?)?;
     }
     due.push_str(AFTER_THE_ROWS)?;
     Ok(due)
 }
 
+// Two immutable memtables may wait; the write that would make a third is refused, until a flush.
 #[test]
-fn refuses_a_row_too_many(rt: HostRuntime) -> Result<(), Fail> {
+fn stalls_where_two_memtables_wait(rt: HostRuntime) -> Result<(), Fail> {
     let alloc = rt.alloc();
     let mut script = many_puts(alloc)?;
     script.push_str("1 put default a x\n1 get default a\n1 get default b\n")?;
-    script.push_str("1 delete default a\n1 get default a\n")?;
+    script.push_str("1 delete default a\n1 flush default\n")?;
+    script.push_str("1 put default a x\n1 get default a\n")?;
     let due = many_replies(alloc)?;
     expect_run(&rt, alloc, script.as_bytes(), 1000, 0, due.as_str())
 }

@@ -1,13 +1,11 @@
 // What is written where nothing runs.
-use crate::runs::{EMPTY_REPORT, expect_run, expect_text, run_over, sink_of, source_of, words_of};
-use std::alloc::Global;
-use std::process::Abort;
+use crate::runs::expect_run;
 use std::test::Fail;
-use sv_run::{Status, run};
+use sv_run::Status;
 use sv_script::{BadKind, BadLine};
 
 // Each line is bad for the word beside it.
-const BAD_LINES: [(&str, &str); 24] = [
+const BAD_LINES: [(&str, &str); 23] = [
     ("33 hold", "lane"),
     ("0 get default a", "lane"),
     ("x get default a", "lane"),
@@ -25,7 +23,6 @@ const BAD_LINES: [(&str, &str); 24] = [
     ("1 unpin -1", "number"),
     ("1 getp x a", "number"),
     ("1 set cold rows 5", "option"),
-    ("1 flush default", "unbuilt"),
     ("1 create cold", "unbuilt"),
     ("1 hold", "unbuilt"),
     ("1 rest", "unbuilt"),
@@ -48,49 +45,6 @@ fn names_the_first_bad_line(rt: HostRuntime) -> Result<(), Fail> {
     Ok(())
 }
 
-const USAGE: &str = "usage: svrun run [--dir PATH]\n       svrun trial N\n       svrun --help\n";
-
-// These words must be refused, with nothing read.
-fn expect_usage(rt: &impl Abort, alloc: Global, words: &[String]) -> Result<(), Fail> {
-    let mut source = source_of(rt, alloc, b"1 frob x", 64, &[])?;
-    let mut sink = sink_of(rt, alloc, 64, &[])?;
-    let ran = run(alloc, words, &mut source, &mut sink);
-    assert_eq!(rt; ran.status, Status::Usage);
-    assert!(rt; ran.done.is_none());
-    expect_text(rt, &sink, USAGE.as_bytes());
-    let mut later = sink_of(rt, alloc, 64, &[])?;
-    let ran = run_over(alloc, &mut source, &mut later)?;
-    let bad = BadLine {
-        line: 1,
-        kind: BadKind::Command,
-    };
-    assert_eq!(rt; ran.status, Status::BadScript(bad));
-    expect_text(rt, &later, b"bad script line 1: command\n");
-    Ok(())
-}
-
-#[test]
-fn takes_the_word_run_alone(rt: HostRuntime) -> Result<(), Fail> {
-    let alloc = rt.alloc();
-    expect_usage(&rt, alloc, &[])?;
-    for line in [
-        "walk",
-        "run,run",
-        "run,--dir",
-        "--help",
-        "trial,0",
-        "Run",
-        "run ",
-        "ru",
-        "",
-        "run,",
-    ] {
-        let words = words_of(alloc, line)?;
-        expect_usage(&rt, alloc, words.as_slice())?;
-    }
-    expect_run(&rt, alloc, b"", 64, 0, EMPTY_REPORT)
-}
-
 #[test]
 fn ends_with_the_number_of_its_status(rt: HostRuntime) {
     let bad = BadLine {
@@ -103,5 +57,6 @@ fn ends_with_the_number_of_its_status(rt: HostRuntime) {
     assert_eq!(rt; Status::ScriptTooLong.exit_code(), 4);
     assert_eq!(rt; Status::ReadFault.exit_code(), 5);
     assert_eq!(rt; Status::WriteFault.exit_code(), 6);
+    assert_eq!(rt; Status::DirFault.exit_code(), 7);
     assert_eq!(rt; Status::OutOfMemory.exit_code(), 8);
 }

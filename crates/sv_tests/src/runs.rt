@@ -1,7 +1,9 @@
 // Runs over streams in memory, and scripts that several tests share.
+use crate::directories::empty_dir;
 use std::alloc::{AllocError, Global};
 use std::process::Abort;
 use std::test::Fail;
+use sv_dir::{Dir, MemDir};
 use sv_run::{MemSink, MemSource, Ran, run};
 
 /// The report of a script without commands.
@@ -64,14 +66,14 @@ pub fn sink_of(
     Ok(MemSink::new(alloc, piece, fails.to_vec(alloc)?))
 }
 
-/// Runs the words `run` over the source and the sink.
+/// Runs the words `run` over the source, an empty directory and the sink.
 pub fn run_over(
     alloc: Global,
     source: &mut MemSource,
     sink: &mut MemSink,
-) -> Result<Ran, AllocError> {
+) -> Result<Ran<MemDir>, Fail> {
     let words = words_of(alloc, "run")?;
-    Ok(run(alloc, words.as_slice(), source, sink))
+    Ok(run(alloc, words.as_slice(), source, empty_dir(alloc)?, sink))
 }
 
 /// The sink must have been given this text.
@@ -95,4 +97,22 @@ pub fn expect_run(
     assert_eq!(rt; ran.status.exit_code(), code);
     assert_eq!(rt; ran.done.is_some(), code == 0);
     Ok(())
+}
+
+/// The script over this directory must end with this exit status and write this text. Gives the directory back.
+pub fn expect_over<D: Dir + Drop>(
+    rt: &impl Abort,
+    alloc: Global,
+    script: &str,
+    dir: D,
+    code: u8,
+    text: &str,
+) -> Result<D, Fail> {
+    let mut source = source_of(rt, alloc, script.as_bytes(), 64, &[])?;
+    let mut sink = sink_of(rt, alloc, 64, &[])?;
+    let words = words_of(alloc, "run")?;
+    let ran = run(alloc, words.as_slice(), &mut source, dir, &mut sink);
+    expect_text(rt, &sink, text.as_bytes());
+    assert_eq!(rt; ran.status.exit_code(), code);
+    Ok(ran.dir)
 }

@@ -1,4 +1,5 @@
 // The streams of the machine. What standard input holds is not known here.
+use crate::directories::empty_dir;
 use crate::runs::words_of;
 use std::test::Fail;
 use sv_run::{Failed, Sink, Source, Status, StdSink, StdSource, run};
@@ -21,7 +22,8 @@ fn writes_standard_output(rt: HostRuntime) -> Result<(), Fail> {
     assert!(rt; 0 < count && count <= 7);
     let words = words_of(rt.alloc(), "walk")?;
     let mut source = StdSource::new(rt);
-    let ran = run(rt.alloc(), words.as_slice(), &mut source, &mut sink);
+    let dir = empty_dir(rt.alloc())?;
+    let ran = run(rt.alloc(), words.as_slice(), &mut source, dir, &mut sink);
     assert_eq!(rt; ran.status, Status::Usage);
     Ok(())
 }
