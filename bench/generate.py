@@ -2,12 +2,18 @@
 """Writes a script to standard output.
 
 generate.py PUTS GETS   so many puts round 1,000 keys, and gets of them; values have 8 bytes
-generate.py full        the greatest script: 500,000 puts in 16 MiB, of which the first 1,024 are accepted
+generate.py full        the greatest script: 500,000 puts in 16 MiB, of which the first 3,072 are accepted
+generate.py flushes FLUSHES COMMANDS
+                        so many commands: 1,000 puts before each flush, and gets that are spread among the puts, each
+                        of the key put last
+generate.py oldest FLUSHES GETS
+                        1,000 puts of keys of its own before each flush, and then gets of the first flush's keys
 """
 import sys
 
 GREATEST = 16 * 1024 * 1024
 LINES = 500_000
+ROWS = 1000
 
 
 def mixed(puts, gets):
@@ -24,7 +30,34 @@ def full():
         yield line + "v" * (room - len(line) - 1) + "\n"
 
 
+def flushes(count, commands):
+    puts = count * ROWS
+    gets = commands - puts - count
+    if gets < 0:
+        sys.exit(f"generate.py: {count} flushes need at least {puts + count} commands")
+    for i in range(puts):
+        key = f"k{i % ROWS:06}"
+        yield f"1 put default {key} v{i:07}\n"
+        yield f"1 get default {key}\n" * ((i + 1) * gets // puts - i * gets // puts)
+        if i % ROWS == ROWS - 1:
+            yield "1 flush default\n"
+
+
+def oldest(count, gets):
+    for i in range(count * ROWS):
+        yield f"1 put default k{i:06} v{i:07}\n"
+        if i % ROWS == ROWS - 1:
+            yield "1 flush default\n"
+    for i in range(gets):
+        yield f"1 get default k{(i * 7919) % ROWS:06}\n"
+
+
+SCRIPTS = {"flushes": flushes, "oldest": oldest}
+
 if sys.argv[1:] == ["full"]:
-    sys.stdout.write("".join(full()))
+    lines = full()
+elif sys.argv[1] in SCRIPTS:
+    lines = SCRIPTS[sys.argv[1]](int(sys.argv[2]), int(sys.argv[3]))
 else:
-    sys.stdout.write("".join(mixed(int(sys.argv[1]), int(sys.argv[2]))))
+    lines = mixed(int(sys.argv[1]), int(sys.argv[2]))
+sys.stdout.write("".join(lines))
