@@ -10,6 +10,7 @@ use Rattle.sv_model.specs.declared.Refusal.{Refusal}
 use Rattle.sv_model.specs.declared.Refusal.TheVariants as refusal
 use Rattle.sv_model.specs.declared.FileStatus.TheVariants.{Obsolete}
 use Rattle.sv_files.specs.Calls.{IsRegistered}
+use Rattle.sv_model.specs.Ranges.{reach_of}
 use Rattle.sv_model.specs.Books.{FileRegister, files_of}
 use Rattle.sv_model.specs.Faults.{RoseBy}
 use Rattle.sv_dir.specs.Files.{Files}
@@ -23,6 +24,7 @@ use Rattle.sv_plain.specs.Store.{IsNumberedFrom, last_files, write_count}
 use Rattle.sv_plain.specs.Views.{Runs, books_of}
 use Rattle.sv_plain.proofs.Lasts.{all_one}
 use Rattle.sv_plain.proofs.Owning.{own_family}
+use Rattle.sv_plain.proofs.Refused.{reached}
 use Rattle.sv_plain.proofs.Putting.{both_same, both_through, holds_same}
 
 pub same_files : (old mid : Parts) (file : FileMeta) → Prepared old mid file → last_files (books_of mid) ≡ last_files (books_of old)
@@ -50,6 +52,7 @@ flushed_by old mid new file f p same done n journal =
       number = o.number ∙ ap (λ (r : FileRegister). r.next) p.before;
       next = n.next ∙ (let e = o.number in omega (arith, e));
       files = done.files ∙ ap (λ z. z ++ file ∷ []) (same_files old mid file p);
+      from = o.from ∙ sym (reached (record (books_of mid) { files = o.before; metas = o.metas }) _ _ _ _ _ _ _ _ o.stands) ∙ ap reach_of (same_files old mid file p);
       some = (let a = o.from in let b = o.to in let c = o.some in omega arith);
       above = o.above;
       all = covers old mid new file p journal;
@@ -114,3 +117,7 @@ held_stopped old new files runs ran versions journal =
 
 pub no_rise : (r : Result FileMeta Refusal) (n : ℕ) → fault_of r ≡ 0 → RoseBy (fault_of r) n n
 no_rise r n e = subst (λ k. RoseBy k n n) (sym e) (omega arith)
+
+pub planned_ok : {T : Type 0} (r : Result T Refusal) (P : Type 0) → P → IfOk r (λ _. P)
+planned_ok (Ok x) P p = p
+planned_ok (Err e) P p = tt

@@ -102,7 +102,7 @@ pub alone : (p : Parts) → Runs p → IsAlone (books_of p)
 alone p r =
     let s = r.stands in
     let members : members_of p.lists (length p.lists) ≡ s.lists.last.members =
-        ap (λ (o : Option MemtableList). unwrap_or (option_map (λ it. it.members) o) []) (entry_last (λ (l : MemtableList). l.live) p.lists s.lists (length p.lists) refl) in
+    ap (λ (o : Option MemtableList). unwrap_or (option_map (λ it. it.members) o) []) (entry_last (λ (l : MemtableList). l.live) p.lists s.lists (length p.lists) refl) in
     record {
       supers = λ n x at live. (live_last (λ (y : SuperVersion). y.live) p.registry s.supers n x at live).0;
       lists = λ n x at live. (live_last (λ (y : MemtableList). y.live) p.lists s.lists n x at live).0;

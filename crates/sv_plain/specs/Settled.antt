@@ -7,6 +7,7 @@ use Rattle.sv_model.specs.declared.Refusal.{Refusal}
 use Rattle.sv_model.specs.declared.Refusal.TheVariants as refusal
 use Rattle.sv_model.specs.declared.FileStatus.TheVariants.{Obsolete}
 use Rattle.sv_model.specs.Books.{Books}
+use Rattle.sv_model.specs.Ranges.{reach_of}
 use Rattle.sv_model.specs.Reads.{IsOutput, IsWrite}
 use Rattle.sv_files.specs.Calls.{IsRegistered}
 use Rattle.sv_plain.specs.Due.{flush_fault, has_rows}
@@ -25,6 +26,7 @@ pub record IsFlushed (old new : Books) (file : FileMeta) : Type 0 where
   pub number : file.number ≡ old.files.next
   pub next : new.files.next ≡ file.number + 1
   pub files : last_files new ≡ last_files old ++ file ∷ []
+  pub from : file.from ≡ reach_of (last_files old)
   pub some : file.from < file.to
   pub above : file.bottom ≡ false
   pub all : file.to ≡ write_count new

@@ -1,11 +1,11 @@
 // The end of a flush: its file is Obsolete, or the last Version has it.
-ghost use Rattle.std.specs.Prelude.{◌≡◌, ◌≤◌, ◌++◌, ◌∷◌, [], ℕ, IfOk, IfErr, OnOk, OnErr, length};
+ghost use Rattle.std.specs.Prelude.{◌≡◌, ◌≤◌, ◌++◌, ◌∷◌, [], ℕ, IfOk, IfErr, OnOk, OnErr, None, length};
 ghost use Rattle.sv_model.specs.declared.FileStatus.TheVariants.{Live, Obsolete};
 ghost use Rattle.sv_model.specs.After.{After};
 ghost use Rattle.sv_model.specs.Faults.{RoseBy};
 ghost use Rattle.sv_model.specs.Refusals.{Refuses};
 ghost use Rattle.sv_registry.specs.Calls.{make_fault};
-ghost use Rattle.sv_plain.specs.Due.{FlushMoment, fault_of};
+ghost use Rattle.sv_plain.specs.Due.{FlushMoment, fault_of, flush_fault};
 ghost use Rattle.sv_plain.specs.Flushing.{IsFinished, IsNumbered, LeftAs, Outputs, SettlesAs};
 ghost use Rattle.sv_plain.specs.Held.{Both, Holds, OthersStay};
 ghost use Rattle.sv_plain.specs.Settled.{IsFlushed, IsStopped};
@@ -121,6 +121,7 @@ impl Parts {
     /// Version with that file last.
     pub fn flush<D: Dir>(&mut self, dir: &mut D) -> Result<FileMeta, Refusal>
         requires { Runs self.old }
+        ensures planned { IfOk result (λ _. flush_fault (books_of self.old) ≡ None) }
         ensures flushed { IfOk result (IsFlushed (books_of self.old) (books_of self.new)) }
         ensures stopped { IfErr result (IsStopped (books_of self.old) (books_of self.new)) }
         ensures moment { IfErr result (FlushMoment (books_of self.new)) }

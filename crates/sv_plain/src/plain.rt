@@ -1,5 +1,5 @@
 // The store of one lane. Contracts see it as books.
-ghost use Rattle.std.specs.Prelude.{◌≡◌, ◌≤◌, ℕ, [], IfOk, IfErr, OnErr, Some, length, All, IsSomeAnd, true, false};
+ghost use Rattle.std.specs.Prelude.{◌≡◌, ◌≤◌, ℕ, [], IfOk, IfErr, OnErr, None, Some, length, All, IsSomeAnd, true, false};
 ghost use Rattle.sv_model.specs.After.{After};
 ghost use Rattle.sv_model.specs.Faults.{RoseBy};
 ghost use Rattle.sv_model.specs.Journal.{look};
@@ -10,7 +10,7 @@ ghost use Rattle.sv_model.specs.Summaries.{summary_of};
 ghost use Rattle.sv_dir.specs.Files.{Files};
 ghost use Rattle.sv_plain.specs.Alone.{IsAlone};
 ghost use Rattle.sv_plain.specs.Closed.{EndsAs, IsClosed};
-ghost use Rattle.sv_plain.specs.Due.{FlushMoment, ReadMoment, WriteMoment, fault_of, write_fault};
+ghost use Rattle.sv_plain.specs.Due.{FlushMoment, flush_fault, ReadMoment, WriteMoment, fault_of, write_fault};
 ghost use Rattle.sv_plain.specs.Held.{Both, GoneAreAbsent, Holds, OthersStay};
 ghost use Rattle.sv_plain.specs.Settled.{ChangesNothing, IsFlushed, IsStopped, IsWritten};
 ghost use Rattle.sv_plain.specs.Store.{IsNumberedFrom, IsOpen, last_files, write_count};
@@ -105,6 +105,7 @@ impl Plain {
     /// be made at the end.
     pub fn flush<D: Dir>(&mut self, dir: &mut D) -> Result<FileMeta, Refusal>
         requires { IsOpen self.old }
+        ensures planned { IfOk result (λ _. flush_fault self.old ≡ None) }
         ensures flushed { IfOk result (IsFlushed self.old self.new) }
         ensures stopped { IfErr result (IsStopped self.old self.new) }
         ensures moment { IfErr result (FlushMoment self.new) }

@@ -1,7 +1,7 @@
 -- The flush was prepared, and its output came to an end.
 use Rattle.std.proofs.Common.{Err}
 use Rattle.sv_plain.specs.Views.{books_of}
-use Rattle.sv_plain.proofs.Flushed.{flushed_ok, held_stopped, held_through, no_rise, numbered_on, stopped_err}
+use Rattle.sv_plain.proofs.Flushed.{flushed_ok, held_stopped, held_through, no_rise, numbered_on, planned_ok, stopped_err}
 use Rattle.sv_plain.proofs.Going.{after_through}
 use Rattle.sv_plain.proofs.parts.Parts.flush.Goals as goal
 
@@ -30,3 +30,6 @@ returns-in-Err-clause-holds c k = held_stopped k.args.self.now k.prepare_flush.n
 
 pub returns-in-Err-clause-faults : goal.returns-in-Err-clause-faults
 returns-in-Err-clause-faults c k = no_rise (Err k.in-Err.refusal) _ k.in-Err.ensures.faultless
+
+pub returns-in-Ok-clause-planned : goal.returns-in-Ok-clause-planned
+returns-in-Ok-clause-planned c k = planned_ok k.output.result _ k.in-Ok.ensures.planned
