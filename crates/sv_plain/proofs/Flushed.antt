@@ -1,6 +1,6 @@
 -- A flush as a whole: it was prepared, and its output came to an end.
-use Rattle.std.proofs.Common.{◌≡◌, ◌+◌, ◌≤◌, ℕ, true, [], ◌∷◌, ◌++◌, All, Option, None, Result, Ok, Err, length, refl, sym, ◌∙◌, ap, subst, arith}
-use Rattle.std.specs.Prelude.{IfOk, IfErr, OnErr}
+use Rattle.std.proofs.Common.{Some, inr, ◌≡◌, ◌+◌, ◌≤◌, ℕ, true, [], ◌∷◌, ◌++◌, All, Option, None, Result, Ok, Err, length, refl, sym, ◌∙◌, ap, subst, arith}
+use Rattle.std.specs.Prelude.{IfOk, IfErr, OnOk, OnErr}
 use Rattle.std.proofs.lemmas.List.{length-drop}
 use Rattle.std.proofs.lemmas.List.Elements.{All-append}
 use Rattle.sv_model.specs.declared.RegisteredFile.{RegisteredFile}
@@ -8,15 +8,15 @@ use Rattle.sv_model.specs.Journal.{of_family}
 use Rattle.sv_model.specs.declared.FileMeta.{FileMeta}
 use Rattle.sv_model.specs.declared.Refusal.{Refusal}
 use Rattle.sv_model.specs.declared.Refusal.TheVariants as refusal
-use Rattle.sv_model.specs.declared.FileStatus.TheVariants.{Obsolete}
-use Rattle.sv_files.specs.Calls.{IsRegistered}
+use Rattle.sv_model.specs.declared.FileStatus.{FileStatus}
+use Rattle.sv_model.specs.declared.FileStatus.TheVariants.{Live, Obsolete}
 use Rattle.sv_model.specs.Ranges.{reach_of}
 use Rattle.sv_model.specs.Books.{FileRegister, files_of}
 use Rattle.sv_model.specs.Faults.{RoseBy}
 use Rattle.sv_dir.specs.Files.{Files}
 use Rattle.sv_plain.specs.declared.parts.Parts.{Parts}
 use Rattle.sv_plain.specs.Due.{flush_fault, fault_of}
-use Rattle.sv_plain.specs.Flushing.{IsFinished, IsLeftBehind, IsNumbered, LeftAs}
+use Rattle.sv_plain.specs.Flushing.{IsFinished, IsLeftBehind, IsNumbered, LeftAs, SettlesAs}
 use Rattle.sv_plain.specs.Held.{Both, Holds}
 use Rattle.sv_plain.specs.Prepared.{Prepared}
 use Rattle.sv_plain.specs.Settled.{IsFlushed, IsStopped, LeavesOutput, StopsAs}
@@ -45,11 +45,16 @@ covers old mid new file p journal =
 first_number : (old mid : Parts) (file : FileMeta) → Prepared old mid file → file.number ≡ old.files.next
 first_number old mid file p = p.outputs.number ∙ ap (λ (r : FileRegister). r.next) p.before
 
-pub flushed_by : (old mid new : Parts) (file f : FileMeta) → (p : Prepared old mid file) → f ≡ file → IsFinished (books_of mid) (books_of new) file → IsNumbered p.outputs.before (books_of new) file → new.journal ≡ mid.journal → IsFlushed (books_of old) (books_of new) f
-flushed_by old mid new file f p same done n journal =
+-- the settled number in the register of before
+numbers_are : (old mid new : Parts) (file : FileMeta) (status : FileStatus) → (p : Prepared old mid file) → SettlesAs (books_of mid) (books_of new) p.outputs.before file status → new.files.numbers ≡ old.files.numbers ++ record { number = file.number; status = status; family = Some 0 } ∷ []
+numbers_are old mid new file status p s = s.numbers ∙ ap (λ (r : FileRegister). r.numbers ++ record { number = file.number; status = status; family = Some 0 } ∷ []) p.before
+
+pub flushed_by : (old mid new : Parts) (file f : FileMeta) → (p : Prepared old mid file) → f ≡ file → IsFinished (books_of mid) (books_of new) file → IsNumbered p.outputs.before (books_of new) file → SettlesAs (books_of mid) (books_of new) p.outputs.before file Live → new.journal ≡ mid.journal → IsFlushed (books_of old) (books_of new) f
+flushed_by old mid new file f p same done n settled journal =
     let o = p.outputs in
     subst (IsFlushed (books_of old) (books_of new)) (sym same) (record {
       number = o.number ∙ ap (λ (r : FileRegister). r.next) p.before;
+      numbers = numbers_are old mid new file Live p settled;
       next = n.next ∙ (let e = o.number in omega (arith, e));
       files = done.files ∙ ap (λ z. z ++ file ∷ []) (same_files old mid file p);
       from = o.from ∙ sym (reached (record (books_of mid) { files = o.before; metas = o.metas }) _ _ _ _ _ _ _ _ o.stands) ∙ ap reach_of (same_files old mid file p);
@@ -62,24 +67,24 @@ flushed_by old mid new file f p same done n journal =
     })
 
 -- the same of the answer of the output
-pub flushed_ok : (old mid new : Parts) (file : FileMeta) (r : Result FileMeta Refusal) → (p : Prepared old mid file) → IfOk r (λ f. (f ≡ file) × IsFinished (books_of mid) (books_of new) file) → IsNumbered p.outputs.before (books_of new) file → new.journal ≡ mid.journal → IfOk r (IsFlushed (books_of old) (books_of new))
-flushed_ok old mid new file (Ok f) p h n journal = flushed_by old mid new file f p h.0 h.1 n journal
-flushed_ok old mid new file (Err e) p h n journal = tt
+pub flushed_ok : (old mid new : Parts) (file : FileMeta) (r : Result FileMeta Refusal) → (p : Prepared old mid file) → IfOk r (λ f. (f ≡ file) × IsFinished (books_of mid) (books_of new) file) → IsNumbered p.outputs.before (books_of new) file → OnOk r (SettlesAs (books_of mid) (books_of new) p.outputs.before file Live) → new.journal ≡ mid.journal → IfOk r (IsFlushed (books_of old) (books_of new))
+flushed_ok old mid new file (Ok f) p h n settled journal = flushed_by old mid new file f p h.0 h.1 n settled journal
+flushed_ok old mid new file (Err e) p h n settled journal = tt
 
-leaves : (old mid new : Parts) (file : FileMeta) → (p : Prepared old mid file) → IsNumbered p.outputs.before (books_of new) file → IsLeftBehind (books_of mid) (books_of new) file → LeavesOutput (books_of old) (books_of new)
+leaves : (old mid new : Parts) (file : FileMeta) → (p : Prepared old mid file) → IsNumbered p.outputs.before (books_of new) file → IsLeftBehind (books_of mid) (books_of new) p.outputs.before file → LeavesOutput (books_of old) (books_of new)
 leaves old mid new file p n h = record {
-  obsolete = subst (λ k. IsRegistered new.files.numbers k Obsolete) (first_number old mid file p) h.obsolete;
+  numbers = numbers_are old mid new file Obsolete p h.settled ∙ ap (λ k. old.files.numbers ++ record { number = k; status = Obsolete; family = Some 0 } ∷ []) (first_number old mid file p);
   next = n.next ∙ ap (λ (r : FileRegister). r.next + 1) p.before;
   empty = h.empty ∙ p.empty;
   waits = h.waits ∙ p.waits;
 }
 
-stops : (old mid new : Parts) (file : FileMeta) (e : Refusal) → (p : Prepared old mid file) → IsNumbered p.outputs.before (books_of new) file → LeftAs (books_of mid) (books_of new) file e → StopsAs (books_of old) (books_of new) e None
-stops old mid new file refusal.OutOfMemory p n h = tt
+stops : (old mid new : Parts) (file : FileMeta) (e : Refusal) → (p : Prepared old mid file) → IsNumbered p.outputs.before (books_of new) file → LeftAs (books_of mid) (books_of new) p.outputs.before file e → StopsAs (books_of old) (books_of new) e None
+stops old mid new file refusal.OutOfMemory p n h = inr (leaves old mid new file p n h)
 stops old mid new file (refusal.DirFault number) p n h = (h.0 ∙ first_number old mid file p, leaves old mid new file p n h.1)
 stops old mid new file e p n h = leaves old mid new file p n h
 
-pub stopped_err : (old mid new : Parts) (file : FileMeta) (r : Result FileMeta Refusal) → (p : Prepared old mid file) → flush_fault (books_of old) ≡ None → IsNumbered p.outputs.before (books_of new) file → IfErr r (LeftAs (books_of mid) (books_of new) file) → OnErr r (new.versions ≡ mid.versions) → IfErr r (IsStopped (books_of old) (books_of new))
+pub stopped_err : (old mid new : Parts) (file : FileMeta) (r : Result FileMeta Refusal) → (p : Prepared old mid file) → flush_fault (books_of old) ≡ None → IsNumbered p.outputs.before (books_of new) file → IfErr r (LeftAs (books_of mid) (books_of new) p.outputs.before file) → OnErr r (new.versions ≡ mid.versions) → IfErr r (IsStopped (books_of old) (books_of new))
 stopped_err old mid new file (Ok f) p none n left same = tt
 stopped_err old mid new file (Err e) p none n left same = record {
   as_due = subst (StopsAs (books_of old) (books_of new) e) (sym none) (stops old mid new file e p n left);

@@ -124,24 +124,18 @@ output_moment b number refusal.OutOfMemory has h = tt
 output_moment b number e has h = absurd h
 
 -- ---- what is left
-pub left_behind : (p : Parts) (file : FileMeta) (new : Books) (o : Outputs p file) → SettlesAs (books_of p) new o.before file Obsolete → new ≡ record (books_of p) { files = new.files } → IsLeftBehind (books_of p) new file
-left_behind p file new o s rest = record {
-  obsolete = (length o.before.numbers + 1, _, subst (λ z. entry z (length o.before.numbers + 1) ≡ Some (record { number = file.number; status = Obsolete; family = Some 0 })) (sym s.numbers) (entry-new o.before.numbers _ (length o.before.numbers + 1) refl), record { number_is = refl; status_is = refl });
-  empty = ap active_rows rest;
-  waits = ap immutable_count rest;
-}
+pub left_behind : (p : Parts) (file : FileMeta) (new : Books) (o : Outputs p file) → SettlesAs (books_of p) new o.before file Obsolete → new ≡ record (books_of p) { files = new.files } → IsLeftBehind (books_of p) new o.before file
+left_behind p file new o s rest = record { settled = s; empty = ap active_rows rest; waits = ap immutable_count rest }
 
-pub left_output : (old new : Books) (file : FileMeta) (e : Refusal) → OutputFault file.number e → IsLeftBehind old new file → LeftAs old new file e
-left_output old new file refusal.OutOfMemory h k = tt
-left_output old new file (refusal.DirFault n) h k = (h, k)
-left_output old new file e h k = k
+pub left_output : (old new : Books) (before : FileRegister) (file : FileMeta) (e : Refusal) → OutputFault file.number e → IsLeftBehind old new before file → LeftAs old new before file e
+left_output old new before file (refusal.DirFault n) h k = (h, k)
+left_output old new before file e h k = k
 
 no_fault : (all live : Bool) (n : ℕ) → cond all (Some refusal.RegisterFull) (cond live (Some refusal.TooManyLive) None) ≡ Some (refusal.DirFault n) → ⊥
 no_fault true live n e = absurd (cc)
 no_fault false true n e = absurd (cc)
 no_fault false false n e = absurd (cc)
 
-pub left_made : (old new : Books) (file : FileMeta) (supers : List SuperVersion) (e : Refusal) → IsDue (make_fault supers) e → IsLeftBehind old new file → LeftAs old new file e
-left_made old new file supers refusal.OutOfMemory h k = tt
-left_made old new file supers (refusal.DirFault n) h k = absurd (no_fault _ _ n h)
-left_made old new file supers e h k = k
+pub left_made : (old new : Books) (before : FileRegister) (file : FileMeta) (supers : List SuperVersion) (e : Refusal) → IsDue (make_fault supers) e → IsLeftBehind old new before file → LeftAs old new before file e
+left_made old new before file supers (refusal.DirFault n) h k = absurd (no_fault _ _ n h)
+left_made old new before file supers e h k = k

@@ -9,7 +9,7 @@ use Rattle.sv_model.specs.declared.Refusal.TheVariants as refusal
 use Rattle.sv_model.specs.Reads.{IsOutput}
 use Rattle.sv_model.specs.Registers.{entry}
 use Rattle.sv_model.specs.Books.{Books, FileRegister}
-use Rattle.sv_files.specs.Calls.{IsRegistered, captured_for}
+use Rattle.sv_files.specs.Calls.{captured_for}
 use Rattle.sv_plain.specs.declared.parts.Parts.{Parts}
 use Rattle.sv_plain.specs.Stands.{Stands}
 use Rattle.sv_plain.specs.Store.{active_rows, immutable_count, last_files}
@@ -54,13 +54,12 @@ pub record IsFinished (old new : Books) (file : FileMeta) : Type 0 where
   pub output : IsOutput new 0 file
 
 -- The number of the file is Obsolete, and the memtables are as they were.
-pub record IsLeftBehind (old new : Books) (file : FileMeta) : Type 0 where
-  pub obsolete : IsRegistered new.files.numbers file.number Obsolete
+pub record IsLeftBehind (old new : Books) (before : FileRegister) (file : FileMeta) : Type 0 where
+  pub settled : SettlesAs old new before file Obsolete
   pub empty : active_rows new ≡ active_rows old
   pub waits : immutable_count new ≡ immutable_count old
 
 -- an output that was refused so
-abbrev pub LeftAs : Books → Books → FileMeta → Refusal → Type 0
-LeftAs old new file refusal.OutOfMemory = Unit {0}
-LeftAs old new file (refusal.DirFault number) = (number ≡ file.number) × IsLeftBehind old new file
-LeftAs old new file e = IsLeftBehind old new file
+abbrev pub LeftAs : Books → Books → FileRegister → FileMeta → Refusal → Type 0
+LeftAs old new before file (refusal.DirFault number) = (number ≡ file.number) × IsLeftBehind old new before file
+LeftAs old new before file e = IsLeftBehind old new before file

@@ -94,7 +94,8 @@ impl Parts {
         requires { Outputs self.old file }
         ensures flushed { IfOk result (λ f. (f ≡ file) × IsFinished (books_of self.old) (books_of self.new) file) }
         ensures moment { IfErr result (FlushMoment (books_of self.new)) }
-        ensures left { IfErr result (LeftAs (books_of self.old) (books_of self.new) file) }
+        ensures done { (outputs : Outputs self.old file) → OnOk result (SettlesAs (books_of self.old) (books_of self.new) outputs.before file Live) }
+        ensures left { (outputs : Outputs self.old file) → IfErr result (LeftAs (books_of self.old) (books_of self.new) outputs.before file) }
         ensures versions { OnErr result (self.new.versions ≡ self.old.versions) }
         ensures journal { self.new.journal ≡ self.old.journal }
         ensures numbers { (outputs : Outputs self.old file) → IsNumbered outputs.before (books_of self.new) file }

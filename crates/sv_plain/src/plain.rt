@@ -10,9 +10,9 @@ ghost use Rattle.sv_model.specs.Summaries.{summary_of};
 ghost use Rattle.sv_dir.specs.Files.{Files};
 ghost use Rattle.sv_plain.specs.Alone.{IsAlone};
 ghost use Rattle.sv_plain.specs.Closed.{EndsAs, IsClosed};
-ghost use Rattle.sv_plain.specs.Due.{FlushMoment, flush_fault, ReadMoment, WriteMoment, fault_of, write_fault};
+ghost use Rattle.sv_plain.specs.Due.{FlushMoment, flush_fault, ReadMoment, WriteMoment, fault_of, is_switch_due, write_fault};
 ghost use Rattle.sv_plain.specs.Held.{Both, GoneAreAbsent, Holds, OthersStay};
-ghost use Rattle.sv_plain.specs.Settled.{ChangesNothing, IsFlushed, IsStopped, IsWritten};
+ghost use Rattle.sv_plain.specs.Settled.{ChangesNothing, IsAfterSwitch, IsFlushed, IsStopped, IsWritten};
 ghost use Rattle.sv_plain.specs.Store.{IsNumberedFrom, IsOpen, last_files, write_count};
 
 use crate::parts::Parts;
@@ -62,6 +62,8 @@ impl Plain {
         requires { IsOpen self.old }
         ensures refused { Refuses (write_fault self.old) result }
         ensures written { IfOk result (λ _. IsWritten self.old self.new key op) }
+        ensures stays { is_switch_due self.old ≡ false → IfOk result (λ _. self.new ≡ record self.old { journal = self.new.journal }) }
+        ensures switched { is_switch_due self.old ≡ true → IfOk result (λ _. IsAfterSwitch self.old self.new) }
         ensures number { IfOk result (λ n. n ≡ write_count self.new) }
         ensures kept { OnErr result (self.new.journal ≡ self.old.journal) }
         ensures same { IfErr result (ChangesNothing self.old self.new) }

@@ -1,11 +1,11 @@
 // Writes: a put or a delete of the lane.
-ghost use Rattle.std.specs.Prelude.{◌≡◌, ◌<◌, ◌∷◌, [], true, IfOk, IfErr, OnOk, OnErr, length};
+ghost use Rattle.std.specs.Prelude.{◌≡◌, ◌<◌, ◌∷◌, [], false, true, IfOk, IfErr, OnOk, OnErr, length};
 ghost use Rattle.sv_model.specs.After.{After};
 ghost use Rattle.sv_model.specs.Refusals.{Refuses, first_due};
 ghost use Rattle.sv_cells.specs.Calls.{memtables_fault};
 ghost use Rattle.sv_registry.specs.Calls.{make_fault};
 ghost use Rattle.sv_plain.specs.Due.{WriteMoment, is_switch_due, stall_fault, write_fault};
-ghost use Rattle.sv_plain.specs.Settled.{ChangesNothing, IsWritten};
+ghost use Rattle.sv_plain.specs.Settled.{ChangesNothing, IsAfterSwitch, IsWritten};
 ghost use Rattle.sv_plain.specs.Store.{active_rows, write_count};
 ghost use Rattle.sv_plain.specs.Switched.{IsSwitched};
 ghost use Rattle.sv_plain.specs.Views.{Runs, books_of};
@@ -19,6 +19,8 @@ impl Parts {
         requires { Runs self.old }
         ensures refused { Refuses (write_fault (books_of self.old)) result }
         ensures room { OnOk result (active_rows (books_of self.new) < 65536) }
+        ensures stays { is_switch_due (books_of self.old) ≡ false → books_of self.new ≡ books_of self.old }
+        ensures switched { is_switch_due (books_of self.old) ≡ true → OnOk result (IsSwitched (books_of self.old) (books_of self.new)) }
         ensures kept { OnErr result (books_of self.new ≡ books_of self.old) }
         ensures journal { self.new.journal ≡ self.old.journal }
         ensures files { self.new.files ≡ self.old.files }
@@ -69,6 +71,8 @@ impl Parts {
         requires { Runs self.old }
         ensures refused { Refuses (write_fault (books_of self.old)) result }
         ensures written { IfOk result (λ _. IsWritten (books_of self.old) (books_of self.new) key op) }
+        ensures stays { is_switch_due (books_of self.old) ≡ false → IfOk result (λ _. books_of self.new ≡ record (books_of self.old) { journal = self.new.journal.items }) }
+        ensures switched { is_switch_due (books_of self.old) ≡ true → IfOk result (λ _. IsAfterSwitch (books_of self.old) (books_of self.new)) }
         ensures number { IfOk result (λ n. n ≡ write_count (books_of self.new)) }
         ensures kept { OnErr result (self.new.journal.items ≡ self.old.journal.items) }
         ensures same { IfErr result (ChangesNothing (books_of self.old) (books_of self.new)) }

@@ -8,11 +8,11 @@ use Rattle.sv_plain.proofs.parts.Parts.flush.Goals as goal
 pub returns-in-Ok-clause-flushed : goal.returns-in-Ok-clause-flushed
 returns-in-Ok-clause-flushed c k =
     let p = k.in-Ok.ensures.prepared in
-    flushed_ok k.args.self.now k.prepare_flush.new.self k.output.new.self k.in-Ok.file k.output.result p k.output.ensures.flushed (k.output.ensures.numbers p.outputs) k.output.ensures.journal
+    flushed_ok k.args.self.now k.prepare_flush.new.self k.output.new.self k.in-Ok.file k.output.result p k.output.ensures.flushed (k.output.ensures.numbers p.outputs) (k.output.ensures.done p.outputs) k.output.ensures.journal
 
 pub returns-in-Ok-clause-stopped : goal.returns-in-Ok-clause-stopped
 returns-in-Ok-clause-stopped c k =
-    stopped_err k.args.self.now k.prepare_flush.new.self k.output.new.self k.in-Ok.file k.output.result k.in-Ok.ensures.prepared k.in-Ok.ensures.planned (k.output.ensures.numbers k.in-Ok.ensures.prepared.outputs) k.output.ensures.left k.output.ensures.versions
+    stopped_err k.args.self.now k.prepare_flush.new.self k.output.new.self k.in-Ok.file k.output.result k.in-Ok.ensures.prepared k.in-Ok.ensures.planned (k.output.ensures.numbers k.in-Ok.ensures.prepared.outputs) (k.output.ensures.left k.in-Ok.ensures.prepared.outputs) k.output.ensures.versions
 
 pub returns-in-Ok-clause-after : goal.returns-in-Ok-clause-after
 returns-in-Ok-clause-after c k = after_through (books_of k.args.self.now) (books_of k.prepare_flush.new.self) (books_of k.output.new.self) k.in-Ok.ensures.prepared.after k.output.ensures.after

@@ -79,11 +79,11 @@ returns-in-Err-clause-others c k =
     others_put k.stop_output.new.self.files.numbers k.args.file.number _ _ _ _ (at_end k.requires.before (books_of k.stop_output.new.self) k.args.file n) refl k.in-Err.ensures.left
 
 pub returns-in-Err-finish_output-clause-left : goal.returns-in-Err-finish_output-clause-left
-returns-in-Err-finish_output-clause-left c k =
-    left_made (books_of k.args.self.now) (books_of k.finish_output.new.self) k.args.file k.args.self.now.registry k.in-Err-finish_output.refusal k.in-Err-finish_output.ensures.refused
-    (left_behind k.args.self.now k.args.file (books_of k.finish_output.new.self) k.requires (k.in-Err-finish_output.ensures.stopped k.requires) k.in-Err-finish_output.ensures.kept)
+returns-in-Err-finish_output-clause-left c k o =
+    left_made (books_of k.args.self.now) (books_of k.finish_output.new.self) o.before k.args.file k.args.self.now.registry k.in-Err-finish_output.refusal k.in-Err-finish_output.ensures.refused
+    (left_behind k.args.self.now k.args.file (books_of k.finish_output.new.self) o (k.in-Err-finish_output.ensures.stopped o) k.in-Err-finish_output.ensures.kept)
 
 pub returns-in-Err-clause-left : goal.returns-in-Err-clause-left
-returns-in-Err-clause-left c k =
-    left_output (books_of k.args.self.now) (books_of k.stop_output.new.self) k.args.file k.in-Err.refusal k.in-Err.ensures.refused
-    (left_behind k.args.self.now k.args.file (books_of k.stop_output.new.self) k.requires (k.stop_output.ensures.settled k.requires) k.stop_output.ensures.rest)
+returns-in-Err-clause-left c k o =
+    left_output (books_of k.args.self.now) (books_of k.stop_output.new.self) o.before k.args.file k.in-Err.refusal k.in-Err.ensures.refused
+    (left_behind k.args.self.now k.args.file (books_of k.stop_output.new.self) o (k.stop_output.ensures.settled o) k.stop_output.ensures.rest)
