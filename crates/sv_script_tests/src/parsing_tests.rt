@@ -124,7 +124,7 @@ fn tests_one_line_in_order(rt: HostRuntime) {
         (b"2 put cold a 1", BadKind::Unbuilt),
         (b"32 get cold a", BadKind::Unbuilt),
         (b"1 getp 18446744073709551615 a", BadKind::Unbuilt),
-        (b"1 flush cold", BadKind::Unbuilt),
+        (b"2 flush cold", BadKind::Unbuilt),
         (b"1 compact cold", BadKind::Unbuilt),
         (b"1 create cold", BadKind::Unbuilt),
         (b"1 open cold", BadKind::Unbuilt),
@@ -194,8 +194,8 @@ fn reads_lines_and_words(rt: HostRuntime) {
     let _ = expect_script(&rt, alloc, b"".as_slice(), 1, 0);
     let _ = expect_script(&rt, alloc, b"\n\n".as_slice(), 1, 0);
     let _ = expect_script(&rt, alloc, b"phase\nphase".as_slice(), 3, 0);
-    let three = b"1 get default a\nphase\n1 delete a_0 b\n1 put cold a 1\n".as_slice();
-    let _ = expect_script(&rt, alloc, three, 2, 3);
+    let four = b"1 get default a\nphase\n1 delete a_0 b\n1 put cold a 1\n1 flush cold\n".as_slice();
+    let _ = expect_script(&rt, alloc, four, 2, 4);
 }
 
 // A byte alone is a line that is skipped, a lane without a command, or no lane.
