@@ -3,9 +3,8 @@
 
 generate.py PUTS GETS   so many puts round 1,000 keys, and gets of them; values have 8 bytes
 generate.py full        the greatest script: 500,000 puts in 16 MiB, of which the first 3,072 are accepted
-generate.py flushes FLUSHES COMMANDS
-                        so many commands: 1,000 puts before each flush, and gets that are spread among the puts, each
-                        of the key put last
+generate.py flushes FLUSHES GETS
+                        before each flush 1,000 puts, and after each put so many gets of its key
 generate.py oldest FLUSHES GETS
                         1,000 puts of keys of its own before each flush, and then gets of the first flush's keys
 """
@@ -30,15 +29,11 @@ def full():
         yield line + "v" * (room - len(line) - 1) + "\n"
 
 
-def flushes(count, commands):
-    puts = count * ROWS
-    gets = commands - puts - count
-    if gets < 0:
-        sys.exit(f"generate.py: {count} flushes need at least {puts + count} commands")
-    for i in range(puts):
+def flushes(count, gets):
+    for i in range(count * ROWS):
         key = f"k{i % ROWS:06}"
         yield f"1 put default {key} v{i:07}\n"
-        yield f"1 get default {key}\n" * ((i + 1) * gets // puts - i * gets // puts)
+        yield f"1 get default {key}\n" * gets
         if i % ROWS == ROWS - 1:
             yield "1 flush default\n"
 
