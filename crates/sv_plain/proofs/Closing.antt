@@ -20,6 +20,7 @@ use Rattle.sv_dir.specs.Files.{Files, file_of, same_name}
 use Rattle.sv_dir.specs.TableNames.{file_name}
 use Rattle.sv_dir.proofs.Laws.{same_name-file_name}
 use Rattle.sv_memtable.specs.Cell.{Cell}
+use Rattle.sv_files.specs.Calls.{IsRegistered}
 use Rattle.sv_files.specs.Laws.{FileLaws}
 use Rattle.sv_plain.specs.declared.immutables.Immutable.{Immutable}
 use Rattle.sv_plain.specs.Closed.{EndsAs, IsClosed, IsSettledNumber}
@@ -105,6 +106,30 @@ settled b mid reach base serial place list version active its files h n y at =
     by_status x is Grabbed e = absurd (subst IsKept e (h.stands.files.kept n x is).1)
     by_status x is Gone e = inl e
 
+not_obsolete : (s : FileStatus) → s ≡ Live → s ≡ Obsolete → ⊥
+not_obsolete s e f = absurd (cc)
+
+-- the files of the last Version stay Live
+still_live : (b mid : Books) (reach base serial place list version : ℕ) (active : Cell) (its : List Immutable) (files : FileRegister) → Closing b mid reach base serial place list version active its files
+    → (file : FileMeta) → In file (last_files mid) → IsRegistered files.numbers file.number Live
+still_live b mid reach base serial place list version active its files h file is =
+    let same = last_same b mid reach base serial place list version active its files h ∙ files_stand b mid reach base serial place list version active its files h in
+    let live = (h.stands.files.named file (subst (λ z. In file z) same is)).live in
+    let le = entry_le b.files.numbers live.0 live.1 live.2 in
+    let y = some_entry files.numbers live.0 le.0 (let c = h.removal.count in omega arith) in
+    elim (h.removal.each live.0 live.1 y.0 live.2 y.1) [
+      | inl kept ↦ (
+        live.0,
+        y.0,
+        y.1,
+        record {
+          number_is = ap (λ (z : RegisteredFile). z.number) kept ∙ live.3.number_is;
+          status_is = ap (λ (z : RegisteredFile). z.status) kept ∙ live.3.status_is;
+        },
+      )
+      | inr gone ↦ absurd (not_obsolete live.1.status live.3.status_is gone.0)
+    ]
+
 pub closed : (b mid : Books) (reach base serial place list version : ℕ) (active : Cell) (its : List Immutable) (files : FileRegister) → Closing b mid reach base serial place list version active its files → IsClosed (record mid { files = files })
 closed b mid reach base serial place list version active its files h = record {
   tops = h.emptied.tops;
@@ -113,6 +138,7 @@ closed b mid reach base serial place list version active its files h = record {
   memtables = h.emptied.memtables;
   versions = λ n x at lives. (live_last (λ (v : Version). v.live) mid.versions h.store.versions n x at lives).0;
   numbers = settled b mid reach base serial place list version active its files h;
+  files = still_live b mid reach base serial place list version active its files h;
 }
 
 pub after_close : (b mid : Books) (reach base serial place list version : ℕ) (active : Cell) (its : List Immutable) (files : FileRegister) → Closing b mid reach base serial place list version active its files → After b (record mid { files = files })

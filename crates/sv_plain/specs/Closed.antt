@@ -5,6 +5,7 @@ use Rattle.sv_model.specs.declared.Memtable.{Memtable}
 use Rattle.sv_model.specs.declared.MemtableList.{MemtableList}
 use Rattle.sv_model.specs.declared.Version.{Version}
 use Rattle.sv_model.specs.declared.FileStatus.TheVariants.{Live, Obsolete, Gone}
+use Rattle.sv_model.specs.declared.FileMeta.{FileMeta}
 use Rattle.sv_model.specs.declared.RegisteredFile.{RegisteredFile}
 use Rattle.sv_model.specs.declared.End.{End}
 use Rattle.sv_model.specs.declared.End.TheVariants as end
@@ -14,6 +15,7 @@ use Rattle.sv_model.specs.Named.{numbers_of}
 use Rattle.sv_model.specs.Registers.{entry}
 use Rattle.sv_model.specs.Summaries.{obsolete_of}
 use Rattle.sv_model.specs.Books.{Books}
+use Rattle.sv_files.specs.Calls.{IsRegistered}
 use Rattle.sv_plain.specs.Store.{last_files, top_of}
 
 -- A registered number is Gone; or Live and in the last Version; or Obsolete, and then it is among those left.
@@ -21,7 +23,7 @@ abbrev pub IsSettledNumber : Books → RegisteredFile → Type 0
 IsSettledNumber b x = (x.status ≡ Gone) ⊎ ((x.status ≡ Obsolete) ⊎ ((x.status ≡ Live) × In x.number (numbers_of (last_files b))))
 
 -- Every SuperVersion, list and memtable is Gone, and so is every Version but the last one, which the family
--- still names.
+-- still names. The files of that one are Live.
 pub record IsClosed (b : Books) : Type 0 where
   pub tops : b.tops ≡ top_of false b ∷ []
   pub supers : (n : ℕ) (x : SuperVersion) → entry b.supers n ≡ Some x → x.live ≡ false
@@ -29,6 +31,7 @@ pub record IsClosed (b : Books) : Type 0 where
   pub memtables : (n : ℕ) (x : Memtable) → entry b.memtables n ≡ Some x → x.live ≡ false
   pub versions : (n : ℕ) (x : Version) → entry b.versions n ≡ Some x → x.live ≡ true → n ≡ length b.versions
   pub numbers : (n : ℕ) (x : RegisteredFile) → entry b.files.numbers n ≡ Some x → IsSettledNumber b x
+  pub files : (file : FileMeta) → In file (last_files b) → IsRegistered b.files.numbers file.number Live
 
 -- How a close ended: clean where no number is left. Else numbers are left, and where none of them is for want of
 -- memory, the directory failed at each.
