@@ -1,4 +1,3 @@
-pub mod Flats
 pub mod Freed
 pub mod Lists
 pub mod Lowering
@@ -6,4 +5,4 @@ pub mod PlaceLaws
 pub mod Ranges
 pub mod Refusing
 pub mod Registers
-pub mod SortedRows
+pub mod KeyOrder

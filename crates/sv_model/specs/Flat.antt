@@ -1,49 +1,73 @@
--- A flat: the newest write of each key among a range of a family's writes, ascending by key.
-use Rattle.std.specs.Prelude.{◌≡◌, ℕ, Bool, true, false, cond, ◌&&◌, List, [], ◌∷◌, Option, Some, None, find, take, drop, IsTrue}
-use Rattle.std.specs.Ordering.{nat_cmp, is_lt}
-use Rattle.std.specs.Cmp.Lexicographic.{slice_cmp}
+-- A flat: of each key and each interval between cuts the newest write, among a range of a family's writes.
+use Rattle.std.specs.Prelude.{◌≡◌, ◌≤◌, ℕ, suc, Bool, true, false, cond, ◌&&◌, ◌==◌, nat_le, List, [], ◌∷◌, ◌++◌, Option, Some, find, take, drop, reverse, option_map, unwrap_or, length}
+use Rattle.std.specs.List.{filter, filter_map}
 use Rattle.sv_model.specs.declared.writes.Write.{Write}
 use Rattle.sv_model.specs.declared.writes.Row.{Row}
-use Rattle.sv_model.specs.declared.writes.Op.{Op}
-use Rattle.sv_model.specs.declared.writes.Op.TheVariants.{Put, Delete}
-use Rattle.sv_model.specs.Journal.{same_key, of_family, rows_of, newest_row}
+use Rattle.sv_model.specs.declared.writes.Kept.{Kept}
+use Rattle.sv_model.specs.declared.writes.Numbered.{Numbered}
+use Rattle.sv_model.specs.declared.cuts.Bottom.{Bottom}
+use Rattle.sv_model.specs.Journal.{same_key, of_family, rows_of, is_delete}
+use Rattle.sv_model.specs.Order.{OrderedBy, key_of_kept, end_of_kept}
 
 -- the writes `from + 1` to `to` of a family
 abbrev pub range_of : List Write → ℕ → ℕ → ℕ → List Row
 range_of journal family from to = rows_of (drop from (take to (of_family family journal)))
 
--- a key stands before another: by bytes, a prefix first
-abbrev pub is_below : List ℕ → List ℕ → Bool
-is_below a b = is_lt (slice_cmp nat_cmp a b)
+-- the rows with their numbers, of which the first is `before + 1`
+abbrev pub numbered_after : ℕ → List Row → List Numbered
+numbered_after before [] = []
+numbered_after before (row ∷ rows) = record { number = suc before; row = row } ∷ numbered_after (suc before) rows
 
--- Each row's key is above the one before, and the first above `last`.
-abbrev pub AscendsFrom : List ℕ → List Row → Type 0
-AscendsFrom last [] = Unit {0}
-AscendsFrom last (row ∷ rows) = IsTrue (is_below last row.key) × AscendsFrom row.key rows
+-- the rows of a key, in their order
+abbrev pub of_key : List ℕ → List Kept → List Kept
+of_key key rows = filter (λ r. same_key key r.row.key) rows
 
--- Each row's key is above the one before.
-abbrev pub Ascends : List Row → Type 0
-Ascends [] = Unit {0}
-Ascends (row ∷ rows) = AscendsFrom row.key rows
+-- the intervals of a range end at its cuts and at its last write
+abbrev pub ends_of : List ℕ → ℕ → List ℕ
+ends_of cuts to = cuts ++ to ∷ []
 
-abbrev pub is_delete : Op → Bool
-is_delete (Put value) = false
-is_delete Delete = true
+-- the end of the interval in which a write lies: the first that it does not pass
+abbrev pub end_at : List ℕ → ℕ → ℕ
+end_at ends number = unwrap_or (find (λ e. nat_le number e) ends) 0
 
--- what a flat keeps of the newest row of a key: at the bottom no delete
-abbrev pub kept : Bool → Option Row → Option Row
-kept bottom None = None
-kept bottom (Some row) = cond (bottom && is_delete row.op) None (Some row)
+-- the newest write of a key in the interval that ends here, bearing that end
+abbrev pub newest_in : List ℕ → List Numbered → List ℕ → ℕ → Option Kept
+newest_in ends writes key end =
+    option_map (λ n. record { end = end; row = n.row }) (find (λ n. same_key key n.row.key && (end_at ends n.number == end)) (reverse writes))
 
--- the row that a table has of a key
-abbrev pub row_at : List ℕ → List Row → Option Row
-row_at key rows = find (λ r. same_key key r.key) rows
+-- of each interval the newest write of a key, the newest first
+abbrev pub newest_each : List ℕ → List Numbered → List ℕ → List Kept
+newest_each ends writes key = filter_map (newest_in ends writes key) (reverse ends)
 
--- The rows are those of the newest write of each key, ascending by key; at the bottom the deletes are left out.
-pub record IsFlatOf (writes : List Row) (bottom : Bool) (rows : List Row) : Type 0 where
-  pub ascends : Ascends rows
-  pub newest : (key : List ℕ) → row_at key rows ≡ kept bottom (newest_row key writes)
+abbrev pub is_empty : List Kept → Bool
+is_empty [] = true
+is_empty (r ∷ rows) = false
+
+-- Without each delete of which no older row stays.
+abbrev pub without_last_deletes : List Kept → List Kept
+without_last_deletes [] = []
+without_last_deletes (r ∷ rows) =
+    cond (is_delete r.row.op && is_empty (without_last_deletes rows)) [] (r ∷ without_last_deletes rows)
+
+-- what stays of a key where nothing lies below: a delete stays only where a put with a smaller end stays
+abbrev pub stays : Bool → List Kept → List Kept
+stays last rows = cond last (without_last_deletes rows) rows
+
+-- The rows are those of the newest write of each key and interval, ascending by key and in one key descending by end;
+-- where nothing lies below, without the deletes under which no put stays.
+pub record IsFlatOf (from to : ℕ) (bottom : Bottom) (writes : List Row) (rows : List Kept) : Type 0 where
+  pub ordered : OrderedBy key_of_kept end_of_kept rows
+  pub newest : (key : List ℕ) → of_key key rows ≡ stays bottom.last (newest_each (ends_of bottom.cuts to) (numbered_after from writes) key)
 
 -- The same of the writes `from + 1` to `to` of a family.
-abbrev pub IsFlat : List Write → ℕ → ℕ → ℕ → Bool → List Row → Type 0
-IsFlat journal family from to bottom rows = IsFlatOf (range_of journal family from to) bottom rows
+abbrev pub IsFlat : List Write → ℕ → ℕ → ℕ → Bottom → List Kept → Type 0
+IsFlat journal family from to bottom rows = IsFlatOf from to bottom (range_of journal family from to) rows
+
+-- Cuts of a range: they ascend, lie inside it, and are at most 64.
+abbrev pub CutsFrom : ℕ → List ℕ → ℕ → Type 0
+CutsFrom low [] high = Unit {0}
+CutsFrom low (cut ∷ cuts) high = (suc low ≤ cut) × (suc cut ≤ high) × CutsFrom cut cuts high
+
+pub record AreCuts (from to : ℕ) (cuts : List ℕ) : Type 0 where
+  pub ascend : CutsFrom from cuts to
+  pub few : length cuts ≤ 64

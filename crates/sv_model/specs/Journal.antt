@@ -1,5 +1,5 @@
 -- The journal is the list of accepted writes, in the order in which they were accepted.
-use Rattle.std.specs.Prelude.{ℕ, Bool, List, Option, Some, None, ◌&&◌, ◌==◌, reverse, map, find, filter, take, option_and_then, option_map}
+use Rattle.std.specs.Prelude.{ℕ, Bool, true, false, List, Option, Some, None, ◌&&◌, ◌==◌, reverse, map, find, filter, take, option_and_then, option_map}
 use Rattle.std.specs.Ordering.{nat_cmp, is_eq}
 use Rattle.std.specs.Cmp.Lexicographic.{slice_cmp}
 use Rattle.sv_model.specs.declared.writes.Write.{Write}
@@ -40,6 +40,10 @@ newest_row key rows = find (λ r. same_key key r.key) (reverse rows)
 -- what the newest row of a key does
 abbrev pub newest_op : List ℕ → List Row → Option Op
 newest_op key rows = option_map (λ r. r.op) (newest_row key rows)
+
+abbrev pub is_delete : Op → Bool
+is_delete (Put value) = false
+is_delete Delete = true
 
 -- the value that an op leaves
 abbrev pub value_of : Op → Option (List ℕ)

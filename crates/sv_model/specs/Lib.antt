@@ -8,10 +8,10 @@ pub mod Lists
 pub mod Moments
 pub mod Named
 pub mod Names
+pub mod Order
 pub mod Places
 pub mod Ranges
 pub mod Reads
 pub mod Refusals
 pub mod Registers
 pub mod Summaries
-pub mod TableText

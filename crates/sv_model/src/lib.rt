@@ -2,6 +2,7 @@
 #![tactic(auto)]
 
 mod counts;
+mod cuts;
 mod faults;
 mod ids;
 mod item_list;
@@ -11,12 +12,15 @@ mod places;
 mod records;
 mod refusals;
 mod reports;
+mod searches;
 mod settings;
-mod sorted_rows;
+mod sv_refs;
+mod tables;
 mod values;
 mod writes;
 
 pub use counts::Counts;
+pub use cuts::{Bottom, Cuts, MAX_CUTS};
 pub use faults::OutOfMemory;
 pub use ids::{FamilyId, FileNumber, ListId, MemId, Pack, SvSerial, VersionId};
 pub use item_list::Items;
@@ -24,12 +28,14 @@ pub use keys::{GREATEST_KEY, Key};
 pub use names::{GREATEST_NAME, Name};
 pub use places::least_free;
 pub use records::{
-    Descriptor, Family, FileMeta, FileStatus, Memtable, MemtableList, RegisteredFile, SuperVersion,
-    Top, Version,
+    Descriptor, Family, FileMeta, FileStatus, Memtable, MemtableList, RegisteredFile, Snapshot,
+    SuperVersion, Top, Version,
 };
 pub use refusals::Refusal;
 pub use reports::{End, FamilyLine, Summary, Totals};
+pub use searches::{Ranked, find_upto};
 pub use settings::{OptionName, Options};
-pub use sorted_rows::find_row;
+pub use sv_refs::SvRef;
+pub use tables::Table;
 pub use values::{GREATEST_VALUE, Value};
-pub use writes::{Op, Row, Write, newest};
+pub use writes::{Kept, Numbered, Op, Row, Write, newest};

@@ -1,18 +1,18 @@
 // The records of the registers: what is kept of each object ever made. A status changes in place.
+use crate::cuts::Bottom;
 use crate::ids::{FamilyId, FileNumber, ListId, MemId, SvSerial, VersionId};
 use crate::item_list::Items;
 use crate::names::Name;
 use crate::settings::Options;
 
-/// A table file: its number, the writes of its family that it covers, and whether deletes are left out.
+/// A table file: its number, the writes of its family that it covers, and what its rows keep of them.
 #[derive(Clone, Copy, Debug, PartialEq, Eq)]
 pub struct FileMeta {
     pub number: FileNumber,
     /// The file covers the writes `from + 1` to `to` of its family.
     pub from: u64,
     pub to: u64,
-    /// Nothing lies below the file, so deletes are left out.
-    pub bottom: bool,
+    pub bottom: Bottom,
 }
 
 /// What a SuperVersion names.
@@ -101,4 +101,11 @@ pub struct Family {
 pub struct Top {
     pub current: Option<SvSerial>,
     pub last: VersionId,
+}
+
+/// A snapshot ever made: it reads what the first `at` writes of the journal leave.
+#[derive(Clone, Copy, Debug, PartialEq, Eq)]
+pub struct Snapshot {
+    pub at: u64,
+    pub live: bool,
 }

@@ -67,11 +67,21 @@ pub enum Refusal {
     Busy {
         number: u64,
     },
-    /// 24: the Version has no file, or one file that is bottom.
+    /// 24: the Version has no file, or one with nothing below it, each of whose cuts a Live snapshot has.
     NothingToCompact,
     /// 25: the lane has 255 holds.
     TooManyHolds,
-    /// Memory was wanted and not had. It has no number.
+    /// 26: 64 snapshots are Live.
+    TooManySnapshots,
+    /// 27: the number is that of no Live snapshot.
+    NoSnapshot,
+    /// 28: the lane has no iterator.
+    NoIterator,
+    /// 29: the lane has no handle of the name at this place in a list of names, counted from 1.
+    NoHandle {
+        index: u64,
+    },
+    /// Out of memory. It has no number.
     OutOfMemory,
 }
 

@@ -1,7 +1,7 @@
 // Writes, and the newest of a key.
 ghost use Rattle.std.specs.Prelude.{◌≡◌, reverse, find};
 ghost use Rattle.std.specs.Option.{option_copied};
-ghost use Rattle.sv_model.specs.Journal.{is_of};
+ghost use Rattle.sv_model.specs.Journal.{is_of, is_delete};
 
 use crate::ids::{FamilyId, MemId};
 use crate::keys::Key;
@@ -13,6 +13,18 @@ use std::alloc::AllocError;
 pub enum Op {
     Put(Value),
     Delete,
+}
+
+impl Op {
+    /// Whether it leaves no value. Takes no memory.
+    pub fn is_delete(&self) -> bool
+        ensures { result ≡ is_delete self.now }
+    {
+        match self {
+            Op::Put(_) => false,
+            Op::Delete => true,
+        }
+    }
 }
 
 impl Clone for Op {
@@ -40,6 +52,41 @@ impl Clone for Row {
         let key = self.key.clone()?;
         let op = self.op.clone()?;
         Ok(Row { key, op })
+    }
+}
+
+/// A row of a table. It is the newest of its key in an interval of the table's writes, which ends at write `end`.
+#[derive(Drop, Debug)]
+pub struct Kept {
+    pub end: u64,
+    pub row: Row,
+}
+
+impl Clone for Kept {
+    ghost is_clone = { λ kept copy. copy ≡ kept };
+
+    fn clone(&self) -> Result<Kept, AllocError> {
+        let row = self.row.clone()?;
+        Ok(Kept { end: self.end, row })
+    }
+}
+
+/// A row with the number of its write, from 1.
+#[derive(Drop, Debug)]
+pub struct Numbered {
+    pub number: u64,
+    pub row: Row,
+}
+
+impl Clone for Numbered {
+    ghost is_clone = { λ numbered copy. copy ≡ numbered };
+
+    fn clone(&self) -> Result<Numbered, AllocError> {
+        let row = self.row.clone()?;
+        Ok(Numbered {
+            number: self.number,
+            row,
+        })
     }
 }
 
