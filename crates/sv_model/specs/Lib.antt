@@ -4,6 +4,7 @@ pub mod Counts
 pub mod Described
 pub mod Families
 pub mod Faults
+pub mod Files
 pub mod Flat
 pub mod Journal
 pub mod Lawful
