@@ -7,3 +7,4 @@ pub mod Ranges
 pub mod Refusing
 pub mod Registers
 pub mod KeyOrder
+pub mod SearchLaws
