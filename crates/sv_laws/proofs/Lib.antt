@@ -3,3 +3,8 @@ pub mod Growing
 pub mod Registers
 pub mod Metas
 pub mod PassedRows
+pub mod BorneRows
+pub mod Settled
+pub mod StillFits
+pub mod OpenFamilies
+pub mod EndsLaws
