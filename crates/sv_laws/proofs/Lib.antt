@@ -8,3 +8,7 @@ pub mod Settled
 pub mod StillFits
 pub mod OpenFamilies
 pub mod EndsLaws
+pub mod SnapshotLaws
+pub mod InstallNames
+pub mod InstallFits
+pub mod Installed
