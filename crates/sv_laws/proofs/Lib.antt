@@ -12,3 +12,9 @@ pub mod SnapshotLaws
 pub mod InstallNames
 pub mod InstallFits
 pub mod Installed
+pub mod OptionSet
+pub mod Switched
+pub mod Outputs
+pub mod Flushed
+pub mod Compacted
+pub mod Created

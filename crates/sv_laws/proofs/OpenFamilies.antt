@@ -1,4 +1,5 @@
 -- What sound books say of an open family and its current.
+use Rattle.sv_model.specs.Snapshots.{IsLastFile}
 use Rattle.std.proofs.Common.{◌≡◌, ◌≢◌, ◌<◌, ◌≤◌, ℕ, zero, suc, ◌+◌, ◌⊎◌, inl, inr, ⊎_elim, true, false, cond, List, [], ◌∷◌, ◌++◌, length, Some, refl, sym, ap, ◌∙◌, subst, arith, ne_eqb, set, length-set}
 use Rattle.std.specs.Prelude.{slice_get}
 use Rattle.sv_model.specs.declared.writes.Write.{Write}
@@ -21,7 +22,7 @@ use Rattle.sv_model.specs.Families.{InRange}
 use Rattle.sv_model.specs.Lawful.{Lawful}
 use Rattle.sv_model.specs.Steady.{Sound, IsCurrent}
 use Rattle.sv_model.proofs.Registers.{entry-same, entry-else}
-use Rattle.sv_laws.specs.Currents.{IsOpen}
+use Rattle.sv_laws.specs.Currents.{IsOpen, next_top}
 use Rattle.sv_laws.specs.Growing.{IsPlaced}
 use Rattle.sv_laws.proofs.Items.{some, in-cons, in-suc}
 use Rattle.sv_laws.proofs.StillFits.{files-at, join_in}
@@ -127,3 +128,9 @@ module _ (a : Books) (k : Sound a) (f s : ℕ) (c : SuperVersion) (o : IsOpen a 
 
   pub fresh-mem : borne_by (length a.memtables + 1) a.journal ≡ []
   fresh-mem = unborne a.journal (length a.memtables + 1) (λ i w e. omega (arith, mem-within (length a.memtables) (length a.families) w (k.steady.borne i w e)))
+
+  -- where the current's Version stays the last one, its files are still those of the last one
+  pub last-still : (T : List Top) → slice_get T f ≡ Some (next_top a c.descriptor.version) → (file : FileMeta) → IsLastFile a.versions T f file → IsLastFile a.versions a.tops f file
+  last-still T e file w =
+      let last : w.top.last ≡ c.descriptor.version = ap (λ (u : Top). u.last) (some (sym w.top_at ∙ e)) in
+      record { top = o.current.top; top_at = o.current.at; version = w.version; version_at = ap (entry a.versions) (sym last_is ∙ sym last) ∙ w.version_at; has = w.has }
