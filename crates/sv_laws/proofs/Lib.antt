@@ -18,3 +18,8 @@ pub mod Outputs
 pub mod Flushed
 pub mod Compacted
 pub mod Created
+pub mod Written
+pub mod FamilyChanges
+pub mod FileChanges
+pub mod Cleaned
+pub mod Purged
