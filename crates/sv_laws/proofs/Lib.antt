@@ -23,3 +23,5 @@ pub mod FamilyChanges
 pub mod FileChanges
 pub mod Cleaned
 pub mod Purged
+pub mod Captured
+pub mod GivenUp
