@@ -33,7 +33,7 @@ use Rattle.sv_laws.proofs.Items.{some, in_append, in-left, in-cons, in-none, non
 use Rattle.sv_laws.proofs.Settled.{marked-goes, marked-keeps, marked_is, marked-captures, settled-captured, settled_other, numbers-settled}
 use Rattle.sv_laws.proofs.StillFits.{describes-on, last-on, awaited-on, join-le, join_reach}
 use Rattle.sv_laws.proofs.OpenFamilies.{of_f, says, one-current}
-use Rattle.sv_laws.proofs.FileChanges.{refiled, awaited-metas}
+use Rattle.sv_laws.proofs.FileChanges.{files-changed, awaited-metas}
 
 -- ---- a capture
 
@@ -139,7 +139,7 @@ module _ (a b : Books) (k : Sound a) (f : ℕ) (file : FileMeta) (h : IsFileCapt
 
   -- what is captured awaits, where this number does
   pub captured : f < length a.families → file.to ≤ length (of_family f a.journal) → ((s : ℕ) (x : SuperVersion) → IsCurrent a.tops a.supers f s x → IsAwaited a.journal a.memtables a.lists a.versions (a.metas ++ file ∷ []) n x.descriptor) → Sound b × After a b
-  captured made within awaits = subst (λ (z : Books). Sound z × After a z) (sym h.is) (refiled a e k (record {
+  captured made within awaits = subst (λ (z : Books). Sound z × After a z) (sym h.is) (files-changed a e k (record {
     numbers = numbers;
     goes = goes-push KeepsNumber a.files.numbers y number-itself;
     metas = (file ∷ [], refl);

@@ -29,7 +29,7 @@ use Rattle.sv_laws.proofs.Items.{some, in_append, in-left, in-cons, in-none, non
 use Rattle.sv_laws.proofs.Settled.{marked-goes, marked-keeps, marked_is, marked-captures, settled-captured, settled_other, numbers-settled, marked-captured_numbers}
 use Rattle.sv_laws.proofs.StillFits.{describes-on, last-on, awaited-on, join-le, join_reach}
 use Rattle.sv_laws.proofs.OpenFamilies.{of_f, says}
-use Rattle.sv_laws.proofs.FileChanges.{refiled, awaited-metas}
+use Rattle.sv_laws.proofs.FileChanges.{files-changed, awaited-metas}
 
 pending_live : {A : Type 0} → Pending ≡ Live → A
 pending_live e = absurd (cc)
@@ -50,7 +50,7 @@ pub given-up : (a b : Books) (k : Sound a) (f n : ℕ) → IsGivenUp a b f n →
 given-up a b k f n h =
     let s = h.settled in
     let e : Books = record a { files = b.files } in
-    subst (λ (z : Books). Sound z × After a z) (sym h.is) (refiled a e k (record {
+    subst (λ (z : Books). Sound z × After a z) (sym h.is) (files-changed a e k (record {
       numbers = numbers-settled f n Obsolete a.files b.files s k.lawful.numbers (λ q. obsolete_pending q) (λ q. obsolete_grabbed q);
       goes = marked-goes n Pending Obsolete a.files.numbers b.files.numbers s.numbers (λ q. pending_gone q);
       metas = continues-itself a.metas;

@@ -18,7 +18,7 @@ use Rattle.sv_model.proofs.Registers.{entry-old, entry_push, goes-same, goes-pus
 use Rattle.sv_model.proofs.AfterLaws.{continues-itself, number-itself}
 use Rattle.sv_laws.specs.Purges.{IsPurgeStep, ChangesGrabbed, IsStray, ChangesHolds}
 use Rattle.sv_laws.proofs.Registers.{goes-back, total-same}
-use Rattle.sv_laws.proofs.FileChanges.{refiled}
+use Rattle.sv_laws.proofs.FileChanges.{files-changed}
 
 -- ---- numbers grabbed and given back
 
@@ -92,7 +92,7 @@ module _ (a b : Books) (k : Sound a) (h : ChangesGrabbed a b) where
   }
 
   pub grabbed-changed : Sound b × After a b
-  grabbed-changed = subst (λ (z : Books). Sound z × After a z) (sym h.is) (refiled a e k (record {
+  grabbed-changed = subst (λ (z : Books). Sound z × After a z) (sym h.is) (files-changed a e k (record {
     numbers = numbers;
     goes = λ n x at. let t = h.goes n x at in (t.0, t.1, record { number = number_is x t.0 t.2; family = family_is x t.0 t.2; gone = λ g. ⊎_elim (λ q. ap (λ (z : RegisteredFile). z.status) q ∙ g) (λ q. ⊎_elim (λ o. obsolete_gone (sym o.0 ∙ g)) (λ o. grabbed_gone (sym o.0 ∙ g)) q.status) t.2 });
     metas = continues-itself a.metas;
@@ -128,7 +128,7 @@ strayed a b k n h =
     let y : RegisteredFile = record { number = n; status = Grabbed; family = None } in
     let law = k.lawful.numbers in
     let e : Books = record a { files = record a.files { numbers = a.files.numbers ++ y ∷ [] } } in
-    subst (λ (z : Books). Sound z × After a z) (sym h.is) (refiled a e k (record {
+    subst (λ (z : Books). Sound z × After a z) (sym h.is) (files-changed a e k (record {
       numbers = record {
         once = λ m. dite (ℕ_discrete m n)
             (λ q. omega (arith, total-push (λ (x : RegisteredFile). same m x.number) a.files.numbers y, same-le m n, h.new, ap (λ i. registered i a.files.numbers) q))
@@ -174,7 +174,7 @@ strayed a b k n h =
 pub holds-changed : (a b : Books) (k : Sound a) → ChangesHolds a b → Sound b × After a b
 holds-changed a b k h =
     let e : Books = record a { files = record a.files { holds = b.files.holds; jobs = b.files.jobs } } in
-    subst (λ (z : Books). Sound z × After a z) (sym h.is) (refiled a e k (record {
+    subst (λ (z : Books). Sound z × After a z) (sym h.is) (files-changed a e k (record {
       numbers = k.lawful.numbers;
       goes = goes-same KeepsNumber a.files.numbers number-itself;
       metas = continues-itself a.metas;
