@@ -1,5 +1,5 @@
 -- The rows of memtables, and what a write more leaves of them.
-use Rattle.std.proofs.Common.{◌≡◌, ◌≢◌, ◌==◌, ◌≤◌, ◌<◌, ◌⊎◌, inl, inr, ⊎_elim, suc, Some, ℕ, ◌+◌, Bool, true, false, cond, List, [], ◌∷◌, ◌++◌, length, take, drop, filter, refl, sym, ap, ◌∙◌, arith, ne_eqb, eq-eqb, append-nil}
+use Rattle.std.proofs.Common.{◌≡◌, ◌≢◌, ◌==◌, ◌≤◌, ◌<◌, inl, inr, ⊎_elim, suc, Some, ℕ, ◌+◌, Bool, true, false, cond, List, [], ◌∷◌, ◌++◌, length, take, drop, filter, refl, sym, ap, ◌∙◌, arith, ne_eqb, eq-eqb, append-nil}
 use Rattle.std.proofs.lemmas.List.{take-append-le, drop-append-le, length-take, length-drop, take_all}
 use Rattle.sv_model.specs.declared.writes.Write.{Write}
 use Rattle.std.specs.Prelude.{slice_get}

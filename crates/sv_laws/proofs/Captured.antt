@@ -13,25 +13,22 @@ use Rattle.sv_model.specs.declared.records.MemtableList.{MemtableList}
 use Rattle.sv_model.specs.declared.records.Version.{Version}
 use Rattle.sv_model.specs.declared.records.FileMeta.{FileMeta}
 use Rattle.sv_model.specs.declared.records.RegisteredFile.{RegisteredFile}
-use Rattle.sv_model.specs.declared.records.FileStatus.TheVariants.{Pending, Live, Obsolete, Grabbed, Gone}
-use Rattle.sv_model.specs.declared.records.Top.{Top}
-use Rattle.sv_model.specs.Lists.{In, same, bit, Every}
+use Rattle.sv_model.specs.declared.records.FileStatus.TheVariants.{Pending, Live, Grabbed}
+use Rattle.sv_model.specs.Lists.{In, same, bit}
 use Rattle.sv_model.specs.Ranges.{reach_of, FilesJoin}
 use Rattle.sv_model.specs.Journal.{borne_by, of_family}
 use Rattle.sv_model.specs.Registers.{entry, change}
 use Rattle.sv_model.specs.After.{KeepsNumber, After}
-use Rattle.sv_model.specs.Books.{Books, FileRegister}
+use Rattle.sv_model.specs.Books.{Books}
 use Rattle.sv_model.specs.Numbers.{NumbersStand, registered}
-use Rattle.sv_model.specs.Lawful.{Lawful}
 use Rattle.sv_model.specs.Described.{MembersJoin, FilesStand}
 use Rattle.sv_model.specs.Steady.{Sound, IsCurrent, IsAwaited}
 use Rattle.sv_model.proofs.Lists.{same_other, same-le, total-push}
 use Rattle.sv_model.proofs.Registers.{entry-old, entry-new, entry_push, entry-same, entry-else, entry_change, goes-push, length-change}
-use Rattle.sv_model.proofs.AfterLaws.{continues-itself, number-itself}
-use Rattle.sv_laws.specs.Captures.{IsFileCaptured, IsFlushBegun, IsMergePlanned, IsGivenUp}
+use Rattle.sv_model.proofs.AfterLaws.{number-itself}
+use Rattle.sv_laws.specs.Captures.{IsFileCaptured, IsFlushBegun, IsMergePlanned}
 use Rattle.sv_laws.proofs.Items.{some, in_append, in-left, in-cons, in-none, none_some, in-right, every_push}
-use Rattle.sv_laws.proofs.Settled.{marked-goes, marked-keeps, marked_is, marked-captures, settled-captured, settled_other, numbers-settled}
-use Rattle.sv_laws.proofs.StillFits.{describes-on, last-on, awaited-on, join-le, join_reach}
+use Rattle.sv_laws.proofs.StillFits.{join-le, join_reach}
 use Rattle.sv_laws.proofs.OpenFamilies.{of_f, says, one-current}
 use Rattle.sv_laws.proofs.FileChanges.{files-changed, awaited-metas}
 

@@ -14,8 +14,8 @@ use Rattle.sv_model.specs.declared.records.FileStatus.TheVariants.{Live}
 use Rattle.sv_model.specs.declared.records.Top.{Top}
 use Rattle.sv_model.specs.Journal.{borne_by, of_family}
 use Rattle.sv_model.specs.Lists.{In, bit}
-use Rattle.sv_model.specs.Named.{HasFile, numbers_of, IsLive, memtable_live, list_live, version_live, UsesMemtable, UsesList, UsesVersion, NamedMemtable, NamedVersion, NamedFile}
-use Rattle.sv_model.specs.Registers.{entry, change, Has, GoesOn}
+use Rattle.sv_model.specs.Named.{numbers_of, IsLive, memtable_live, list_live, version_live, UsesMemtable, UsesList, UsesVersion, NamedMemtable, NamedVersion, NamedFile}
+use Rattle.sv_model.specs.Registers.{entry, change, GoesOn}
 use Rattle.sv_model.specs.After.{KeepsSuper, KeepsMemtable, KeepsList, KeepsVersion, KeepsNumber, KeepsFamily, After, KeepsSnapshot}
 use Rattle.sv_model.specs.Books.{Books}
 use Rattle.sv_model.specs.Numbers.{IsRegistered}

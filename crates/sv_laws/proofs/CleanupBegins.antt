@@ -1,31 +1,21 @@
 -- How a cleanup begins: the list and the Version go where nothing names them, and what is to be looked at.
-use Rattle.std.proofs.Common.{◌≡◌, ◌≢◌, ◌<◌, ◌≤◌, ℕ, suc, ◌⊎◌, inl, inr, ⊎_elim, Bool, true, false, cond, List, [], ◌∷◌, ◌++◌, length, Option, Some, None, refl, sym, ap, ◌∙◌, subst, arith}
-use Rattle.std.specs.Prelude.{slice_get, ◌↔◌}
-use mathlib.Core.Logic.{dite}
-use native.Mathlib.Decide.{ℕ_discrete}
+use Rattle.std.proofs.Common.{◌≡◌, ℕ, ◌⊎◌, inl, inr, ⊎_elim, true, false, List, [], ◌∷◌, length, Option, Some, None, refl, sym, ap, ◌∙◌, subst}
+use Rattle.std.specs.Prelude.{slice_get}
 use Rattle.sv_model.specs.declared.records.SuperVersion.{SuperVersion}
-use Rattle.sv_model.specs.declared.records.Memtable.{Memtable}
 use Rattle.sv_model.specs.declared.records.MemtableList.{MemtableList}
 use Rattle.sv_model.specs.declared.records.Version.{Version}
-use Rattle.sv_model.specs.declared.records.RegisteredFile.{RegisteredFile}
-use Rattle.sv_model.specs.declared.records.FileStatus.TheVariants.{Live, Obsolete}
-use Rattle.sv_model.specs.Lists.{In, Distinct, total, times, same}
-use Rattle.sv_model.specs.Named.{HasMember, HasFile, numbers_of, IsLive, memtable_live, list_live, version_live, UsesMemtable, UsesList, UsesVersion, NamedMemtable, NamedVersion, NamedList, NamedFile}
-use Rattle.sv_model.specs.Registers.{entry, change, Has, GoesOn, EachEntry}
+use Rattle.sv_model.specs.Lists.{In}
+use Rattle.sv_model.specs.Named.{HasMember, HasFile, IsLive, list_live, version_live, UsesMemtable, UsesList, UsesVersion, NamedMemtable, NamedVersion, NamedList, NamedFile}
+use Rattle.sv_model.specs.Registers.{entry, change, Has, GoesOn}
 use Rattle.sv_model.specs.After.{KeepsMemtable, KeepsList, KeepsVersion}
 use Rattle.sv_model.specs.Books.{Books}
-use Rattle.sv_model.specs.Numbers.{registered}
 use Rattle.sv_model.specs.Steady.{Sound}
-use Rattle.sv_model.proofs.Lists.{times_in, in_times}
-use Rattle.sv_model.proofs.Registers.{entry-same, entry-else, entry_change, entry_push, total_entry, has_total, goes-same, goes-change, goes-on, length-change}
+use Rattle.sv_model.proofs.Registers.{entry-else, entry_change, goes-same, goes-change, length-change}
 use Rattle.sv_model.proofs.AfterLaws.{memtable-itself, list-itself, version-itself}
 use Rattle.sv_laws.specs.Midst.{Midst, MidstFiles, Frees, EndsList, EndsVersion}
-use Rattle.sv_laws.specs.Cleaning.{Went, Ends, EndsFiles}
-use Rattle.sv_laws.specs.Settling.{IsMarked}
-use Rattle.sv_laws.proofs.Items.{some, in-cons, in-none, in-left, in-right, in_append}
-use Rattle.sv_laws.proofs.Settled.{marked_entry}
-use Rattle.sv_laws.proofs.Metas.{once-at}
-use Rattle.sv_laws.proofs.Registers.{goes-back, has-shrink, has-keep, live-back, total-same}
+use Rattle.sv_laws.specs.Cleaning.{Ends}
+use Rattle.sv_laws.proofs.Items.{in-none}
+use Rattle.sv_laws.proofs.Registers.{goes-back, has-shrink, has-keep, live-back}
 use Rattle.sv_laws.proofs.EndsLaws.{ends-of}
 use Rattle.sv_laws.proofs.MidstLaws.{member-or-not, file-or-not}
 

@@ -1,20 +1,15 @@
 -- Registers of which only lives change.
-use Rattle.std.proofs.Common.{◌≡◌, ◌<◌, ◌≤◌, ℕ, zero, suc, ◌⊎◌, inl, inr, ⊎_elim, Bool, true, false, List, [], ◌∷◌, length, Option, Some, refl, sym, ap, ◌∙◌, subst, arith}
+use Rattle.std.proofs.Common.{◌≡◌, ℕ, ◌⊎◌, inl, inr, ⊎_elim, Bool, false, List, length, Option, Some, sym, ap, ◌∙◌, subst, arith}
 use Rattle.std.specs.Prelude.{◌↔◌, is_some}
-use mathlib.Core.Logic.{dite}
-use native.Mathlib.Decide.{ℕ_discrete}
 use Rattle.sv_model.specs.declared.records.RegisteredFile.{RegisteredFile}
-use Rattle.sv_model.specs.declared.records.FileMeta.{FileMeta}
 use Rattle.sv_model.specs.declared.records.FileStatus.{FileStatus}
 use Rattle.sv_model.specs.declared.records.FileStatus.TheVariants.{Pending, Live, Obsolete, Grabbed, Gone}
-use Rattle.sv_model.specs.Lists.{total, same, bit}
-use Rattle.sv_model.specs.Registers.{entry, change, Has, GoesOn}
+use Rattle.sv_model.specs.Lists.{same, bit}
+use Rattle.sv_model.specs.Registers.{GoesOn}
 use Rattle.sv_model.specs.After.{KeepsNumber}
 use Rattle.sv_model.specs.Named.{IsLive}
 use Rattle.sv_model.specs.Numbers.{NumbersStand, IsRegistered, captures, captured_numbers}
-use Rattle.sv_model.proofs.Registers.{entry-else, entry_change, entry_le}
 use Rattle.sv_laws.specs.Cleaning.{Ends, EndsFiles, TurnsFile}
-use Rattle.sv_laws.proofs.Items.{some}
 use Rattle.sv_laws.proofs.Registers.{goes-back, live-back, total-same}
 use Rattle.sv_laws.proofs.Metas.{captured_numbers-goes}
 

@@ -1,5 +1,5 @@
 -- A flush ends.
-use Rattle.std.proofs.Common.{◌≡◌, ◌<◌, ◌≤◌, ℕ, suc, ◌+◌, inl, inr, ⊎_elim, true, false, List, [], ◌∷◌, ◌++◌, length, Option, Some, None, refl, sym, ap, ◌∙◌, subst, arith, set, length-append}
+use Rattle.std.proofs.Common.{◌≡◌, ◌<◌, ◌≤◌, ℕ, suc, ◌+◌, inl, inr, ⊎_elim, true, false, List, [], ◌∷◌, ◌++◌, length, Some, refl, sym, ap, ◌∙◌, subst, arith, set}
 use Rattle.std.specs.Prelude.{slice_get}
 use Rattle.sv_model.specs.declared.writes.Write.{Write}
 use Rattle.sv_model.specs.declared.records.SuperVersion.{SuperVersion}
@@ -7,35 +7,26 @@ use Rattle.sv_model.specs.declared.records.Memtable.{Memtable}
 use Rattle.sv_model.specs.declared.records.MemtableList.{MemtableList}
 use Rattle.sv_model.specs.declared.records.Version.{Version}
 use Rattle.sv_model.specs.declared.records.FileMeta.{FileMeta}
-use Rattle.sv_model.specs.declared.records.FileStatus.TheVariants.{Pending, Live, Gone}
-use Rattle.sv_model.specs.declared.records.Family.{Family}
-use Rattle.sv_model.specs.declared.records.Top.{Top}
-use Rattle.sv_model.specs.Journal.{borne_by, of_family}
+use Rattle.sv_model.specs.declared.records.FileStatus.TheVariants.{Live}
+use Rattle.sv_model.specs.Journal.{borne_by}
 use Rattle.sv_model.specs.Lists.{In, Every}
-use Rattle.sv_model.specs.Named.{numbers_of}
 use Rattle.sv_model.specs.Ranges.{reach_of}
-use Rattle.sv_model.specs.Registers.{entry, GoesOn}
+use Rattle.sv_model.specs.Registers.{entry}
 use Rattle.sv_model.specs.Books.{Books}
-use Rattle.sv_model.specs.After.{KeepsNumber, After}
+use Rattle.sv_model.specs.After.{After}
 use Rattle.sv_model.specs.Numbers.{IsRegistered}
-use Rattle.sv_model.specs.Described.{MembersJoin, FilesStand, IsFileOf}
-use Rattle.sv_model.specs.Steady.{Sound, IsFlush, IsMerge, IsAwaited}
-use Rattle.sv_model.proofs.Registers.{entry-new, entry-same, entry_push}
-use Rattle.sv_laws.specs.Installs.{IsFlushed, IsCompacted, IsCreated, IsParted}
-use Rattle.sv_laws.specs.Currents.{Installs, next_top, live_super, IsOpen}
-use Rattle.sv_laws.specs.Settling.{IsSettled}
-use Rattle.sv_laws.proofs.Items.{some, every_push, every_none, get_one, in-cons, in-none, in-right, none_some, in_append}
-use Rattle.sv_laws.proofs.Growing.{get_within, placed-set, placed-same, placed-push}
-use Rattle.sv_laws.proofs.Settled.{marked-goes, marked-keeps, marked-here, settled-captured}
-use Rattle.sv_laws.proofs.Metas.{captured-goes}
+use Rattle.sv_model.specs.Described.{MembersJoin, IsFileOf}
+use Rattle.sv_model.specs.Steady.{Sound}
+use Rattle.sv_model.proofs.Registers.{entry-new, entry_push}
+use Rattle.sv_laws.specs.Installs.{IsFlushed}
+use Rattle.sv_laws.specs.Currents.{next_top, live_super}
+use Rattle.sv_laws.proofs.Items.{some, every_push, in-cons, in-none, in-right, in_append}
+use Rattle.sv_laws.proofs.Growing.{placed-set, placed-same}
 use Rattle.sv_laws.proofs.StillFits.{join-le, file-on, files-join-push, join_reach, files-at}
 use Rattle.sv_laws.proofs.Installed.{installed}
-use Rattle.sv_laws.proofs.BorneRows.{unborne, unowned}
-use Rattle.sv_laws.proofs.OpenFamilies.{numbers_push, numbers-push, of_f, options_are, ends-at, says, active-lives, list-lives, version-lives, member, was, had, in-range, name-free, last-files, paired-set}
+use Rattle.sv_laws.proofs.OpenFamilies.{numbers_push, numbers-push, of_f, options_are, ends-at, says, active-lives, member, was, had, in-range, name-free, last-files, paired-set}
 use Rattle.sv_laws.proofs.OpenFamilies.{last_is, has-handles}
-use Rattle.sv_laws.proofs.Metas.{one-meta}
-use Rattle.sv_model.specs.Snapshots.{IsLastFile, IsAwaitedFile}
-use Rattle.sv_laws.proofs.Outputs.{is-some, is-flush, is-merge, gn, now-live, stay-live, still, none-captured, file-of, says-files, last-output, was-awaited}
+use Rattle.sv_laws.proofs.Outputs.{is-some, is-flush, gn, now-live, still, none-captured, file-of, says-files, last-output, was-awaited}
 
 -- Two ways to part members at a write are one: what comes after the file's memtables begins at its end.
 pub parted-join : (J : List Write) (M : List Memtable) (f : ℕ) (front back low high : List ℕ) (from to base : ℕ) → MembersJoin J M f from front to → MembersJoin J M f from (front ++ back) base → front ++ back ≡ low ++ high

@@ -1,33 +1,17 @@
 -- A family's handles, its drop, its retirement, and the end of its current.
-use Rattle.sv_model.specs.Registers.{entry}
-use Rattle.sv_laws.proofs.BorneRows.{borne-on}
-use Rattle.sv_model.specs.Snapshots.{IsLastFile}
-use Rattle.sv_model.specs.Ranges.{reach_of}
-use Rattle.sv_laws.proofs.SnapshotLaws.{snapshots-kept}
-use Rattle.sv_model.specs.Journal.{of_family}
-use Rattle.sv_model.specs.declared.records.FileMeta.{FileMeta}
-use Rattle.std.proofs.Common.{◌≡◌, ◌≢◌, ◌==◌, ◌&&◌, ℕ, zero, suc, ◌⊎◌, inl, inr, ⊎_elim, Bool, true, false, List, [], ◌∷◌, length, Some, None, refl, sym, ap, ◌∙◌, subst, arith, set, length-set, ne_eqb}
+use Rattle.std.proofs.Common.{◌≡◌, ◌==◌, ◌&&◌, ℕ, zero, suc, inl, inr, Bool, true, false, List, [], ◌∷◌, Some, None, refl, sym, ap, ◌∙◌, arith, set, length-set, ne_eqb}
 use Rattle.std.specs.Prelude.{slice_get}
-use mathlib.Core.Logic.{dite}
-use native.Mathlib.Decide.{ℕ_discrete}
-use Rattle.sv_model.specs.declared.records.SuperVersion.{SuperVersion}
 use Rattle.sv_model.specs.declared.records.Family.{Family}
 use Rattle.sv_model.specs.declared.records.Top.{Top}
 use Rattle.sv_model.specs.Lists.{total, bit}
-use Rattle.sv_model.specs.After.{KeepsSuper, KeepsMemtable, KeepsList, KeepsVersion, KeepsNumber, KeepsFamily, After, KeepsSnapshot}
-use Rattle.sv_model.specs.Books.{Books, files_of}
-use Rattle.sv_model.specs.Families.{is_retired, IsDefault, InRange}
-use Rattle.sv_model.specs.Named.{HasLast, NamedVersion}
-use Rattle.sv_model.specs.Lawful.{Lawful}
-use Rattle.sv_model.specs.Described.{LastFits, IsTop}
-use Rattle.sv_model.specs.Steady.{Sound, IsCurrent}
+use Rattle.sv_model.specs.After.{After}
+use Rattle.sv_model.specs.Books.{Books}
+use Rattle.sv_model.specs.Families.{is_retired}
+use Rattle.sv_model.specs.Steady.{Sound}
 use Rattle.sv_model.proofs.Lists.{total_at}
-use Rattle.sv_model.proofs.Registers.{goes-same}
-use Rattle.sv_model.proofs.AfterLaws.{continues-itself, super-itself, memtable-itself, list-itself, version-itself, number-itself, family-itself, snapshot-itself}
-use Rattle.sv_laws.specs.Families.{ChangesFamily, IsDropped, IsOpened, IsReleased, IsRetired, IsCurrentEnded, released}
-use Rattle.sv_laws.specs.Growing.{IsPlaced}
-use Rattle.sv_laws.proofs.Items.{some, none_some}
-use Rattle.sv_laws.proofs.Growing.{placed_get, placed-goes, get_within, get-some, placed-set}
+use Rattle.sv_laws.specs.Families.{IsDropped, IsOpened, IsReleased, IsRetired, IsCurrentEnded, released}
+use Rattle.sv_laws.proofs.Items.{some}
+use Rattle.sv_laws.proofs.Growing.{get_within, get-some}
 use Rattle.sv_laws.proofs.FamilyChanges.{family-changed}
 
 set-self : {A : Type 0} (l : List A) (f : ℕ) (x : A) → slice_get l f ≡ Some x → set l f x ≡ l

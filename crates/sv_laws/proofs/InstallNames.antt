@@ -1,37 +1,29 @@
 -- A SuperVersion becomes current: what is Live is named, and what is named is Live.
-use Rattle.std.proofs.Common.{◌≡◌, ◌≢◌, ◌<◌, ◌≤◌, ℕ, suc, ◌+◌, ◌⊎◌, inl, inr, ⊎_elim, true, false, Bool, ◌&&◌, ◌==◌, List, [], ◌∷◌, ◌++◌, length, take, drop, cond, Some, None, refl, sym, ap, ◌∙◌, subst, arith, ne_eqb, length-append}
+use Rattle.std.proofs.Common.{◌≡◌, ℕ, ◌+◌, ◌⊎◌, inl, inr, ⊎_elim, List, [], ◌∷◌, ◌++◌, length, Some, sym, ap, ◌∙◌, subst}
 use Rattle.std.specs.Prelude.{slice_get, ◌↔◌}
 use mathlib.Core.Logic.{dite}
 use native.Mathlib.Decide.{ℕ_discrete}
-use Rattle.sv_model.specs.declared.writes.Write.{Write}
 use Rattle.sv_model.specs.declared.records.SuperVersion.{SuperVersion}
-use Rattle.sv_model.specs.declared.records.Descriptor.{Descriptor}
 use Rattle.sv_model.specs.declared.records.Memtable.{Memtable}
 use Rattle.sv_model.specs.declared.records.MemtableList.{MemtableList}
 use Rattle.sv_model.specs.declared.records.Version.{Version}
-use Rattle.sv_model.specs.declared.records.FileMeta.{FileMeta}
 use Rattle.sv_model.specs.declared.records.Family.{Family}
 use Rattle.sv_model.specs.declared.records.Top.{Top}
-use Rattle.sv_model.specs.declared.records.FileStatus.TheVariants.{Pending, Live, Grabbed, Gone}
-use Rattle.sv_model.specs.Journal.{borne_by, of_family}
-use Rattle.sv_model.specs.Lists.{In, total, bit, Every}
+use Rattle.sv_model.specs.declared.records.FileStatus.TheVariants.{Pending, Live, Gone}
+use Rattle.sv_model.specs.Lists.{In}
 use Rattle.sv_model.specs.Named.{HasMember, HasFile, numbers_of, IsLive, memtable_live, list_live, version_live, UsesMemtable, UsesList, UsesVersion, HasLast, NamedMemtable, NamedVersion, NamedList, NamedFile}
-use Rattle.sv_model.specs.Registers.{entry, Has, GoesOn, EachEntry}
-use Rattle.sv_model.specs.After.{KeepsSuper, KeepsMemtable, KeepsList, KeepsVersion, KeepsNumber, KeepsFamily, After}
+use Rattle.sv_model.specs.Registers.{GoesOn}
+use Rattle.sv_model.specs.After.{KeepsMemtable, KeepsList, KeepsVersion, KeepsNumber}
 use Rattle.sv_model.specs.Books.{Books, FileRegister}
-use Rattle.sv_model.specs.Families.{is_retired, IsDefault, InRange}
-use Rattle.sv_model.specs.Numbers.{NumbersStand, IsRegistered, captures}
+use Rattle.sv_model.specs.Numbers.{IsRegistered}
 use Rattle.sv_model.specs.Lawful.{Lawful}
-use Rattle.sv_model.specs.Described.{Describes, LastFits, FilesStand, BearsFrom, IsTop}
-use Rattle.sv_model.specs.Steady.{Sound, Steady, IsCurrent, IsListed, IsAwaited}
-use Rattle.sv_model.proofs.Lists.{total-push}
-use Rattle.sv_model.proofs.Registers.{entry-old, entry-new, entry_push, entry_le, goes-same, goes-push, length-change}
-use Rattle.sv_model.proofs.AfterLaws.{continues-itself, super-itself, memtable-itself, list-itself, version-itself, number-itself, family-itself}
+use Rattle.sv_model.specs.Steady.{Sound}
+use Rattle.sv_model.proofs.Registers.{goes-same}
+use Rattle.sv_model.proofs.AfterLaws.{memtable-itself, list-itself, version-itself, number-itself}
 use Rattle.sv_laws.specs.Currents.{Installs, IsNewMemtable, IsNewList, IsNewVersion}
 use Rattle.sv_laws.proofs.Items.{some, has-old, has-new, has_push}
-use Rattle.sv_laws.proofs.Growing.{grown_entry, grown-old, grown-goes, grown-has, grown-longer, grown-shorter, grown-total, placed_get, placed-goes, get_within, get-some}
-use Rattle.sv_laws.proofs.Settled.{marked-goes, marked-keeps, marked_is, marked-captures, settled-captured, settled-others, settled_other, numbers-settled}
-use Rattle.sv_laws.proofs.StillFits.{last-on, describes-on, awaited-on, reach-on, join-le, join_in}
+use Rattle.sv_laws.proofs.Growing.{grown_entry, grown-old, grown-goes, grown-has, placed_get}
+use Rattle.sv_laws.proofs.Settled.{marked-goes, marked-keeps, marked_is}
 
 not_pending : Live ≡ Pending → ⊥
 not_pending e = absurd (cc)

@@ -1,9 +1,8 @@
 -- A SuperVersion becomes current: the books stay sound, and come after those before.
-use Rattle.std.proofs.Common.{◌≡◌, ◌≢◌, ◌<◌, ◌≤◌, ℕ, suc, ◌+◌, ◌⊎◌, inl, inr, ⊎_elim, true, false, Bool, ◌&&◌, ◌==◌, List, [], ◌∷◌, ◌++◌, length, take, drop, cond, Some, None, refl, sym, ap, ◌∙◌, subst, arith, ne_eqb, length-append}
-use Rattle.std.specs.Prelude.{slice_get, ◌↔◌}
+use Rattle.std.proofs.Common.{◌≡◌, ◌≢◌, ◌<◌, ◌≤◌, ℕ, suc, ◌+◌, ◌⊎◌, inl, inr, ⊎_elim, true, false, Bool, ◌&&◌, ◌==◌, List, [], ◌∷◌, ◌++◌, length, Some, None, refl, sym, ap, ◌∙◌, subst, arith, length-append}
+use Rattle.std.specs.Prelude.{slice_get}
 use mathlib.Core.Logic.{dite}
 use native.Mathlib.Decide.{ℕ_discrete}
-use Rattle.sv_model.specs.declared.writes.Write.{Write}
 use Rattle.sv_model.specs.declared.records.SuperVersion.{SuperVersion}
 use Rattle.sv_model.specs.declared.records.Descriptor.{Descriptor}
 use Rattle.sv_model.specs.declared.records.Memtable.{Memtable}
@@ -12,26 +11,23 @@ use Rattle.sv_model.specs.declared.records.Version.{Version}
 use Rattle.sv_model.specs.declared.records.FileMeta.{FileMeta}
 use Rattle.sv_model.specs.declared.records.Family.{Family}
 use Rattle.sv_model.specs.declared.records.Top.{Top}
-use Rattle.sv_model.specs.declared.records.FileStatus.TheVariants.{Pending, Live, Grabbed, Gone}
-use Rattle.sv_model.specs.Journal.{borne_by, of_family}
+use Rattle.sv_model.specs.declared.records.FileStatus.TheVariants.{Pending, Live}
 use Rattle.sv_model.specs.Lists.{In, total, bit, Every}
-use Rattle.sv_model.specs.Named.{HasMember, HasFile, numbers_of, IsLive, memtable_live, list_live, version_live, UsesMemtable, UsesList, UsesVersion, HasLast, NamedMemtable, NamedVersion}
-use Rattle.sv_model.specs.Registers.{entry, Has, GoesOn, EachEntry}
+use Rattle.sv_model.specs.Registers.{entry, GoesOn, EachEntry}
 use Rattle.sv_model.specs.After.{KeepsSuper, KeepsMemtable, KeepsList, KeepsVersion, KeepsNumber, KeepsFamily, After, KeepsSnapshot}
 use Rattle.sv_model.specs.Books.{Books, FileRegister}
 use Rattle.sv_model.specs.Families.{is_retired, IsDefault, InRange}
-use Rattle.sv_model.specs.Numbers.{NumbersStand, IsRegistered, captures}
+use Rattle.sv_model.specs.Numbers.{captures}
 use Rattle.sv_model.specs.Lawful.{Lawful}
-use Rattle.sv_model.specs.Described.{Describes, LastFits, FilesStand, BearsFrom, IsTop}
 use Rattle.sv_model.specs.Steady.{Sound, Steady, IsCurrent, IsListed, IsAwaited}
 use Rattle.sv_model.proofs.Lists.{total-push}
 use Rattle.sv_model.proofs.Registers.{entry-old, entry-new, entry_push, entry_le, goes-same, goes-push, length-change}
-use Rattle.sv_model.proofs.AfterLaws.{continues-itself, super-itself, memtable-itself, list-itself, version-itself, number-itself, family-itself, snapshot-itself}
+use Rattle.sv_model.proofs.AfterLaws.{continues-itself, super-itself, family-itself, snapshot-itself}
 use Rattle.sv_laws.specs.Currents.{Installs, IsNewMemtable, IsNewList, IsNewVersion}
 use Rattle.sv_laws.proofs.Items.{some, none_some}
-use Rattle.sv_laws.proofs.Growing.{grown_entry, grown-old, grown-goes, grown-has, grown-longer, grown-shorter, grown-total, placed_get, placed-goes, get_within, get-some}
-use Rattle.sv_laws.proofs.Settled.{marked-goes, marked-keeps, marked_is, marked-captures, settled-captured, settled-others, settled_other, numbers-settled}
-use Rattle.sv_laws.proofs.StillFits.{last-on, describes-on, awaited-on, reach-on, join-le, join_in}
+use Rattle.sv_laws.proofs.Growing.{grown_entry, grown-old, grown-longer, grown-shorter, grown-total, placed_get, placed-goes, get_within}
+use Rattle.sv_laws.proofs.Settled.{marked-captures, settled-captured}
+use Rattle.sv_laws.proofs.StillFits.{awaited-on, reach-on, join_in}
 use Rattle.sv_laws.proofs.InstallNames.{memtables-on, lists-on, versions-on, numbers-on, memtables_law, lists_law, versions_law, files_law}
 use Rattle.sv_laws.proofs.InstallFits.{descriptors_law, lasts_law, rows_law, tops_law, numbers_law, metas_law, snapshots_law, captured_back, captured_old}
 use Rattle.sv_laws.proofs.OpenFamilies.{current-top}

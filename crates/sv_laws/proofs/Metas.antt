@@ -66,7 +66,7 @@ captured_numbers-goes R keeps (x ∷ N) (y ∷ K) q g =
 pub captured_numbers-change : (l : List RegisteredFile) (n : ℕ) (x y : RegisteredFile) → entry l n ≡ Some x → y.number ≡ x.number → y.family ≡ x.family → captured_numbers (change l n y) ≡ captured_numbers l
 captured_numbers-change l n x y at number family =
     captured_numbers-goes (λ u v. (v.number ≡ u.number) × (v.family ≡ u.family)) (λ u v r. r) l (change l n y) (length-change l n y)
-        (goes-change (λ u v. (v.number ≡ u.number) × (v.family ≡ u.family)) l n x y (λ z. (refl, refl)) at (number, family))
+    (goes-change (λ u v. (v.number ≡ u.number) × (v.family ≡ u.family)) l n x y (λ z. (refl, refl)) at (number, family))
 
 pub captured_numbers-push : (l : List RegisteredFile) (x : RegisteredFile) → captured_numbers (l ++ x ∷ []) ≡ captured_numbers l ++ cond (is_some x.family) (x.number ∷ []) []
 captured_numbers-push [] x = captured-cons x []

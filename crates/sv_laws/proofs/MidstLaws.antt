@@ -1,31 +1,28 @@
 -- In the midst of a cleanup: one memtable and one file looked at.
-use Rattle.std.proofs.Common.{◌≡◌, ◌≢◌, ◌<◌, ◌≤◌, ℕ, suc, ◌⊎◌, inl, inr, ⊎_elim, Bool, true, false, cond, List, [], ◌∷◌, ◌++◌, length, Option, Some, None, refl, sym, ap, ◌∙◌, subst, arith}
+use Rattle.std.proofs.Common.{◌≡◌, ◌≢◌, ◌<◌, ◌≤◌, ℕ, suc, ◌⊎◌, inl, inr, ⊎_elim, Bool, true, false, cond, List, [], ◌∷◌, ◌++◌, length, Some, refl, sym, ap, ◌∙◌, subst, arith}
 use Rattle.std.specs.Prelude.{slice_get, ◌↔◌}
 use mathlib.Core.Logic.{dite}
 use native.Mathlib.Decide.{ℕ_discrete}
-use Rattle.sv_model.specs.declared.records.SuperVersion.{SuperVersion}
 use Rattle.sv_model.specs.declared.records.Memtable.{Memtable}
 use Rattle.sv_model.specs.declared.records.MemtableList.{MemtableList}
 use Rattle.sv_model.specs.declared.records.Version.{Version}
 use Rattle.sv_model.specs.declared.records.RegisteredFile.{RegisteredFile}
 use Rattle.sv_model.specs.declared.records.FileStatus.TheVariants.{Live, Obsolete}
 use Rattle.sv_model.specs.Lists.{In, Distinct, total, times, same}
-use Rattle.sv_model.specs.Named.{HasMember, HasFile, numbers_of, IsLive, memtable_live, list_live, version_live, UsesMemtable, UsesList, UsesVersion, NamedMemtable, NamedVersion}
-use Rattle.sv_model.specs.Registers.{entry, change, Has, GoesOn, EachEntry}
-use Rattle.sv_model.specs.After.{KeepsMemtable, KeepsList, KeepsVersion}
-use Rattle.sv_model.specs.Books.{Books}
+use Rattle.sv_model.specs.Named.{HasMember, HasFile, numbers_of, IsLive, memtable_live}
+use Rattle.sv_model.specs.Registers.{entry, change, Has, EachEntry}
+use Rattle.sv_model.specs.After.{KeepsMemtable}
 use Rattle.sv_model.specs.Numbers.{registered}
-use Rattle.sv_model.specs.Steady.{Sound}
 use Rattle.sv_model.proofs.Lists.{times_in, in_times}
-use Rattle.sv_model.proofs.Registers.{entry-same, entry-else, entry_change, entry_push, total_entry, has_total, goes-same, goes-change, goes-on, length-change}
-use Rattle.sv_model.proofs.AfterLaws.{memtable-itself, list-itself, version-itself}
-use Rattle.sv_laws.specs.Midst.{Midst, MidstFiles, Frees, EndsList, EndsVersion}
+use Rattle.sv_model.proofs.Registers.{entry-same, entry-else, entry_change, entry_push, total_entry, has_total, goes-change, goes-on, length-change}
+use Rattle.sv_model.proofs.AfterLaws.{memtable-itself}
+use Rattle.sv_laws.specs.Midst.{Midst, MidstFiles}
 use Rattle.sv_laws.specs.Cleaning.{Went, Ends, EndsFiles}
 use Rattle.sv_laws.specs.Settling.{IsMarked}
 use Rattle.sv_laws.proofs.Items.{some, in-cons, in-none, in-left, in-right, in_append}
 use Rattle.sv_laws.proofs.Settled.{marked_entry}
 use Rattle.sv_laws.proofs.Metas.{once-at}
-use Rattle.sv_laws.proofs.Registers.{goes-back, has-shrink, has-keep, live-back, total-same}
+use Rattle.sv_laws.proofs.Registers.{goes-back, live-back, total-same}
 use Rattle.sv_laws.proofs.EndsLaws.{ends-of}
 
 not_live : {A : Type 0} → false ≡ true → A

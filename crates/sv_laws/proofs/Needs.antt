@@ -9,9 +9,9 @@ use Rattle.sv_model.specs.declared.records.RegisteredFile.{RegisteredFile}
 use Rattle.sv_model.specs.declared.records.FileStatus.TheVariants.{Pending, Live}
 use Rattle.sv_model.specs.Journal.{borne_by}
 use Rattle.sv_model.specs.Lists.{In, total, bit}
-use Rattle.sv_model.specs.Named.{HasFile, IsLive, memtable_live, NamedFile}
+use Rattle.sv_model.specs.Named.{IsLive, memtable_live, NamedFile}
 use Rattle.sv_model.specs.Ranges.{FilesJoin, reach_of}
-use Rattle.sv_model.specs.Registers.{entry, change, Has, GoesOn}
+use Rattle.sv_model.specs.Registers.{entry, change, GoesOn}
 use Rattle.sv_model.specs.After.{KeepsMemtable}
 use Rattle.sv_model.specs.Books.{Books}
 use Rattle.sv_model.specs.Numbers.{IsRegistered}

@@ -1,8 +1,7 @@
 -- What sound books say of an open family and its current.
 use Rattle.sv_model.specs.Snapshots.{IsLastFile}
-use Rattle.std.proofs.Common.{◌≡◌, ◌≢◌, ◌<◌, ◌≤◌, ℕ, zero, suc, ◌+◌, ◌⊎◌, inl, inr, ⊎_elim, true, false, cond, List, [], ◌∷◌, ◌++◌, length, Some, refl, sym, ap, ◌∙◌, subst, arith, ne_eqb, set, length-set}
+use Rattle.std.proofs.Common.{◌≡◌, ◌≢◌, ◌<◌, ◌≤◌, ℕ, ◌+◌, ◌⊎◌, inl, inr, ⊎_elim, true, false, List, [], ◌∷◌, ◌++◌, length, Some, refl, sym, ap, ◌∙◌, subst, arith, set, length-set}
 use Rattle.std.specs.Prelude.{slice_get}
-use Rattle.sv_model.specs.declared.writes.Write.{Write}
 use Rattle.sv_model.specs.declared.records.SuperVersion.{SuperVersion}
 use Rattle.sv_model.specs.declared.records.Descriptor.{Descriptor}
 use Rattle.sv_model.specs.declared.records.Memtable.{Memtable}
@@ -21,9 +20,7 @@ use Rattle.sv_model.specs.Described.{Describes, IsTop}
 use Rattle.sv_model.specs.Families.{InRange}
 use Rattle.sv_model.specs.Lawful.{Lawful}
 use Rattle.sv_model.specs.Steady.{Sound, IsCurrent}
-use Rattle.sv_model.proofs.Registers.{entry-same, entry-else}
 use Rattle.sv_laws.specs.Currents.{IsOpen, next_top}
-use Rattle.sv_laws.specs.Growing.{IsPlaced}
 use Rattle.sv_laws.proofs.Items.{some, in-cons, in-suc}
 use Rattle.sv_laws.proofs.StillFits.{files-at, join_in}
 use Rattle.sv_laws.proofs.BorneRows.{unborne, mem-within}

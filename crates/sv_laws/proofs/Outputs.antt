@@ -1,38 +1,27 @@
 -- A family's output, which is Live now.
-use Rattle.std.proofs.Common.{◌≡◌, ◌<◌, ◌≤◌, ℕ, suc, ◌+◌, inl, inr, ⊎_elim, true, false, List, [], ◌∷◌, ◌++◌, length, Option, Some, None, refl, sym, ap, ◌∙◌, subst, arith, set, length-append}
+use Rattle.std.proofs.Common.{◌≡◌, ◌<◌, ℕ, suc, ◌+◌, ⊎_elim, true, false, List, [], ◌∷◌, ◌++◌, length, Option, Some, None, refl, sym, ap, ◌∙◌, subst}
 use Rattle.std.specs.Prelude.{slice_get}
-use Rattle.sv_model.specs.declared.writes.Write.{Write}
 use Rattle.sv_model.specs.declared.records.SuperVersion.{SuperVersion}
-use Rattle.sv_model.specs.declared.records.Memtable.{Memtable}
 use Rattle.sv_model.specs.declared.records.MemtableList.{MemtableList}
 use Rattle.sv_model.specs.declared.records.Version.{Version}
 use Rattle.sv_model.specs.declared.records.FileMeta.{FileMeta}
 use Rattle.sv_model.specs.declared.records.FileStatus.TheVariants.{Pending, Live, Gone}
-use Rattle.sv_model.specs.declared.records.Family.{Family}
 use Rattle.sv_model.specs.declared.records.Top.{Top}
-use Rattle.sv_model.specs.Journal.{borne_by, of_family}
-use Rattle.sv_model.specs.Lists.{In, Every}
+use Rattle.sv_model.specs.Lists.{In}
 use Rattle.sv_model.specs.Named.{numbers_of}
-use Rattle.sv_model.specs.Ranges.{reach_of}
 use Rattle.sv_model.specs.Registers.{entry, GoesOn}
 use Rattle.sv_model.specs.Books.{Books}
-use Rattle.sv_model.specs.After.{KeepsNumber, After}
+use Rattle.sv_model.specs.After.{KeepsNumber}
 use Rattle.sv_model.specs.Numbers.{IsRegistered}
-use Rattle.sv_model.specs.Described.{MembersJoin, FilesStand, IsFileOf}
+use Rattle.sv_model.specs.Described.{FilesStand, IsFileOf}
 use Rattle.sv_model.specs.Steady.{Sound, IsFlush, IsMerge, IsAwaited}
-use Rattle.sv_model.proofs.Registers.{entry-new, entry-same, entry_push}
-use Rattle.sv_laws.specs.Installs.{IsFlushed, IsCompacted, IsCreated, IsParted}
-use Rattle.sv_laws.specs.Currents.{Installs, next_top, live_super, IsOpen}
+use Rattle.sv_model.proofs.Registers.{entry-new, entry-same}
+use Rattle.sv_laws.specs.Currents.{next_top, IsOpen}
 use Rattle.sv_laws.specs.Settling.{IsSettled}
-use Rattle.sv_laws.proofs.Items.{some, every_push, every_none, get_one, in-cons, in-none, in-right, none_some}
-use Rattle.sv_laws.proofs.Growing.{get_within, placed-set, placed-same, placed-push}
+use Rattle.sv_laws.proofs.Items.{some, none_some}
 use Rattle.sv_laws.proofs.Settled.{marked-goes, marked-keeps, marked-here, settled-captured}
 use Rattle.sv_laws.proofs.Metas.{captured-goes}
-use Rattle.sv_laws.proofs.StillFits.{join-le, file-on, files-join-push, join_reach, files-at}
-use Rattle.sv_laws.proofs.Installed.{installed}
-use Rattle.sv_laws.proofs.BorneRows.{unborne, unowned}
-use Rattle.sv_laws.proofs.OpenFamilies.{numbers_push, numbers-push, of_f, options_are, ends-at, says, active-lives, list-lives, version-lives, member, was, had, in-range, name-free, last-files, paired-set}
-use Rattle.sv_laws.proofs.OpenFamilies.{last_is, has-handles}
+use Rattle.sv_laws.proofs.OpenFamilies.{of_f, says, version-lives}
 use Rattle.sv_laws.proofs.Metas.{one-meta}
 use Rattle.sv_model.specs.Snapshots.{IsLastFile, IsAwaitedFile}
 

@@ -1,19 +1,14 @@
 -- A number's status changes.
-use Rattle.std.proofs.Common.{◌≡◌, ◌≢◌, ◌<◌, ◌≤◌, ℕ, zero, suc, ◌+◌, ◌⊎◌, inl, inr, ⊎_elim, List, [], ◌∷◌, Option, Some, None, refl, sym, ap, ◌∙◌, subst, arith}
+use Rattle.std.proofs.Common.{◌≡◌, ◌≢◌, ◌<◌, ℕ, suc, ◌⊎◌, inl, inr, ⊎_elim, List, Option, Some, None, refl, sym, ap, ◌∙◌, subst, arith}
 use Rattle.std.specs.Prelude.{slice_get, is_some}
-use mathlib.Core.Logic.{dite}
-use native.Mathlib.Decide.{ℕ_discrete}
 use Rattle.sv_model.specs.declared.records.RegisteredFile.{RegisteredFile}
-use Rattle.sv_model.specs.declared.records.FileMeta.{FileMeta}
 use Rattle.sv_model.specs.declared.records.FileStatus.{FileStatus}
 use Rattle.sv_model.specs.declared.records.FileStatus.TheVariants.{Pending, Grabbed, Gone}
-use Rattle.sv_model.specs.Lists.{total, same, bit}
-use Rattle.sv_model.specs.Registers.{entry, change, Has, GoesOn}
+use Rattle.sv_model.specs.Lists.{same, bit}
+use Rattle.sv_model.specs.Registers.{entry, change, GoesOn}
 use Rattle.sv_model.specs.After.{KeepsNumber}
-use Rattle.sv_model.specs.Reads.{IsCapturedFor}
 use Rattle.sv_model.specs.Numbers.{NumbersStand, IsRegistered, registered, captures, captured_numbers}
 use Rattle.sv_model.specs.Books.{FileRegister}
-use Rattle.sv_model.proofs.Lists.{total_at, same_here}
 use Rattle.sv_model.proofs.Registers.{entry-same, entry-else, entry_change, total-change, goes-change}
 use Rattle.sv_model.proofs.AfterLaws.{number-itself}
 use Rattle.sv_laws.specs.Settling.{IsMarked, IsSettled}

@@ -1,10 +1,9 @@
 -- The law of snapshots is kept while their cuts are.
 use Rattle.sv_model.specs.Lists.{total, bit}
 use Rattle.sv_model.specs.Registers.{entry}
-use Rattle.std.proofs.Common.{◌≡◌, ◌≤◌, ℕ, List, ◌++◌, length, take, sym, ap, ◌∙◌, subst, ⊎_elim, arith, length-append, Some}
+use Rattle.std.proofs.Common.{◌≡◌, ◌≤◌, ℕ, List, length, take, sym, ap, ◌∙◌, subst, ⊎_elim, arith, length-append, Some}
 use Rattle.std.proofs.lemmas.List.{take-append-le}
 use Rattle.sv_model.specs.declared.writes.Write.{Write}
-use Rattle.sv_model.specs.declared.records.FileMeta.{FileMeta}
 use Rattle.sv_model.specs.declared.records.Snapshot.{Snapshot}
 use Rattle.sv_model.specs.Journal.{of_family}
 use Rattle.sv_model.specs.Snapshots.{SnapshotsStand, cut_of, IsClear}
