@@ -57,7 +57,13 @@ module _ (a b : Books) (k : Sound a) (f : ℕ) (file : FileMeta) where
                 (in-cons n file.number [] i);
           },
         );
-        files = inr (record { number = file.number; settled = h.settled; it = v; at = entry-new a.versions v (length a.versions + 1) refl; has = record { at = 0; is = refl } });
+        files = inr (record {
+          number = file.number;
+          settled = h.settled;
+          it = v;
+          at = entry-new a.versions v (length a.versions + 1) refl;
+          has = record { at = 0; is = refl };
+        });
         active_live = active-lives a k f h.s c p;
         list_lives = list-lives a k f h.s c p;
         version_lives = record { it = v; at = entry-new a.versions v (length a.versions + 1) refl; live = refl };

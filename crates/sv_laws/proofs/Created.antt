@@ -30,7 +30,8 @@ created a b k r h =
     let f = length a.families in
     let none : of_family f a.journal ≡ [] = unowned a.journal f (λ i w e. (k.steady.borne i w e).family_made) in
     let zero_is : 0 ≡ length (of_family f a.journal) = sym (ap (λ (l : List Write). length l) none) in
-    let fresh : borne_by (length a.memtables + 1) a.journal ≡ [] = unborne a.journal (length a.memtables + 1) (λ i w e. omega (arith, mem-within (length a.memtables) (length a.families) w (k.steady.borne i w e))) in
+    let fresh : borne_by (length a.memtables + 1) a.journal ≡ [] =
+    unborne a.journal (length a.memtables + 1) (λ i w e. omega (arith, mem-within (length a.memtables) (length a.families) w (k.steady.borne i w e))) in
     let x : SuperVersion = live_super (record { family = f; active = length a.memtables + 1; list = length a.lists + 1; version = length a.versions + 1; base = 0; options = r.options }) h.place in
     let y : Memtable = record { family = f; first = 0; cell = h.cell; live = true } in
     let z : MemtableList = record { members = []; live = true } in
@@ -44,13 +45,24 @@ created a b k r h =
       tops = a.tops ++ next_top a (length a.versions + 1) ∷ [];
     } in
     let tops = subst (λ g. IsPlaced a.tops (a.tops ++ next_top a (length a.versions + 1) ∷ []) g (next_top a (length a.versions + 1))) k.lawful.paired (placed-push a.tops (next_top a (length a.versions + 1))) in
-    let no_top : (t : Top) → slice_get a.tops f ≡ Some t → ⊥ = λ t q. omega (arith, get_within a.tops f t q, k.lawful.paired) in
+    let no_top : (t : Top) → slice_get a.tops f ≡ Some t → ⊥ =
+    λ t q. omega (arith, get_within a.tops f t q, k.lawful.paired) in
     subst (λ (u : Books). Sound u × After a u) (sym h.is) (installed a e k f r x (record {
       rest = refl;
       family_is = refl;
       live = refl;
       room = h.room;
-      memtables = inr (y, refl, record { is_active = refl; live = refl; family_is = refl; first_is = zero_is; room = h.cell_room });
+      memtables = inr (
+        y,
+        refl,
+        record {
+          is_active = refl;
+          live = refl;
+          family_is = refl;
+          first_is = zero_is;
+          room = h.cell_room;
+        },
+      );
       lists = inr (z, refl, record { is_list = refl; live = refl; members = λ m i. absurd (in-none m i) });
       versions = inr (v, refl, record { is_version = refl; live = refl; files = λ n i. absurd (in-none n i) });
       files = inl refl;
@@ -68,7 +80,11 @@ created a b k r h =
         version = v;
         version_at = entry-new a.versions v (length a.versions + 1) refl;
         middle = 0;
-        files = record { joins = refl; each = every_none (IsFileOf a.files.numbers a.metas f); above = λ i m q low. absurd (none_some m q) };
+        files = record {
+          joins = refl;
+          each = every_none (IsFileOf a.files.numbers a.metas f);
+          above = λ i m q low. absurd (none_some m q);
+        };
         members = refl;
       };
       ends = omega (arith, ap (λ (l : List Write). length l) fresh, zero_is);

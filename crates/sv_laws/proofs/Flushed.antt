@@ -29,11 +29,13 @@ use Rattle.sv_laws.proofs.OpenFamilies.{last_is, has-handles}
 use Rattle.sv_laws.proofs.Outputs.{is-some, is-flush, gn, now-live, still, none-captured, file-of, says-files, last-output, was-awaited}
 
 -- Two ways to part members at a write are one: what comes after the file's memtables begins at its end.
-pub parted-join : (J : List Write) (M : List Memtable) (f : ℕ) (front back low high : List ℕ) (from to base : ℕ) → MembersJoin J M f from front to → MembersJoin J M f from (front ++ back) base → front ++ back ≡ low ++ high
+pub parted-join : (J : List Write) (M : List Memtable) (f : ℕ) (front back low high : List ℕ) (from to base : ℕ)
+    → MembersJoin J M f from front to → MembersJoin J M f from (front ++ back) base → front ++ back ≡ low ++ high
     → Every (λ m. (it : Memtable) → entry M m ≡ Some it → it.first < to) low
     → Every (λ m. (it : Memtable) → entry M m ≡ Some it → to ≤ it.first) high
     → MembersJoin J M f to high base
-parted-join J M f [] back [] high from to base h j e l u = subst (λ i. MembersJoin J M f i high base) h (subst (λ ms. MembersJoin J M f from ms base) e j)
+parted-join J M f [] back [] high from to base h j e l u =
+    subst (λ i. MembersJoin J M f i high base) h (subst (λ ms. MembersJoin J M f from ms base) e j)
 parted-join J M f [] back (m ∷ low) high from to base h j e l u =
     let t : MembersJoin J M f from (m ∷ (low ++ high)) base = subst (λ ms. MembersJoin J M f from ms base) e j in
     absurd (omega (arith, l 0 m refl t.0.it t.0.at, t.0.first_is, h))
@@ -43,8 +45,11 @@ parted-join J M f (m ∷ front) back (n ∷ low) high from to base h j e l u =
     let rest : front ++ back ≡ low ++ high = cc in
     parted-join J M f front back low high (from + length (borne_by m J)) to base h.1 j.1 rest (λ i x q. l (suc i) x q) u
 
-above-push : (files : List FileMeta) (file : FileMeta) → ((i : ℕ) (m : FileMeta) → slice_get files i ≡ Some m → 0 < i → m.bottom.last ≡ false) → file.bottom.last ≡ false → (i : ℕ) (m : FileMeta) → slice_get (files ++ file ∷ []) i ≡ Some m → 0 < i → m.bottom.last ≡ false
-above-push files file h kind i m e low = ⊎_elim (λ o. h i m o low) (λ o. ap (λ (u : FileMeta). u.bottom.last) o.1 ∙ kind) (entry_push files file (suc i) m e)
+above-push : (files : List FileMeta) (file : FileMeta)
+    → ((i : ℕ) (m : FileMeta) → slice_get files i ≡ Some m → 0 < i → m.bottom.last ≡ false) → file.bottom.last ≡ false
+    → (i : ℕ) (m : FileMeta) → slice_get (files ++ file ∷ []) i ≡ Some m → 0 < i → m.bottom.last ≡ false
+above-push files file h kind i m e low =
+    ⊎_elim (λ o. h i m o low) (λ o. ap (λ (u : FileMeta). u.bottom.last) o.1 ∙ kind) (entry_push files file (suc i) m e)
 
 module _ (a b : Books) (k : Sound a) (f : ℕ) (file : FileMeta) where
   pub flushed : IsFlushed a b f file → Sound b × After a b
@@ -79,7 +84,15 @@ module _ (a b : Books) (k : Sound a) (f : ℕ) (file : FileMeta) where
         live = refl;
         room = h.room;
         memtables = inl refl;
-        lists = inr (z, refl, record { is_list = refl; live = refl; members = λ m i. member a k f h.s c p m h.list h.list_at (subst (In m) (sym h.parted.parts) (in-right m h.parted.front h.back i)) });
+        lists = inr (
+          z,
+          refl,
+          record {
+            is_list = refl;
+            live = refl;
+            members = λ m i. member a k f h.s c p m h.list h.list_at (subst (In m) (sym h.parted.parts) (in-right m h.parted.front h.back i));
+          },
+        );
         versions = inr (
           v,
           refl,
@@ -92,7 +105,13 @@ module _ (a b : Books) (k : Sound a) (f : ℕ) (file : FileMeta) where
                 (numbers_push h.version.files file n i);
           },
         );
-        files = inr (record { number = file.number; settled = h.settled; it = v; at = entry-new a.versions v (length a.versions + 1) refl; has = numbers-push h.version.files file });
+        files = inr (record {
+          number = file.number;
+          settled = h.settled;
+          it = v;
+          at = entry-new a.versions v (length a.versions + 1) refl;
+          has = numbers-push h.version.files file;
+        });
         active_live = active-lives a k f h.s c p;
         list_lives = record { it = z; at = entry-new a.lists z (length a.lists + 1) refl; live = refl };
         version_lives = record { it = v; at = entry-new a.versions v (length a.versions + 1) refl; live = refl };
@@ -117,7 +136,13 @@ module _ (a b : Books) (k : Sound a) (f : ℕ) (file : FileMeta) where
         ends = ends-at a k f h.s c p;
         awaited = λ n q. absurd (none-captured a b k f h.s c p file h.covered h.settled n q);
         lasts = λ m w. ⊎_elim
-            (λ i. inl (record { top = p.current.top; top_at = p.current.at; version = h.version; version_at = ap (entry a.versions) (sym (last_is a k f h.s c p)) ∙ h.version_at; has = i }))
+            (λ i. inl (record {
+              top = p.current.top;
+              top_at = p.current.at;
+              version = h.version;
+              version_at = ap (entry a.versions) (sym (last_is a k f h.s c p)) ∙ h.version_at;
+              has = i;
+            }))
             (λ i. inr (was-awaited a b k f h.s c p file h.covered h.settled m (⊎_elim (λ q. q) (λ q. absurd (in-none m q)) (in-cons m file [] i))))
             (in_append m h.version.files (file ∷ []) (last-output a b k f h.s c p file h.covered h.settled v (set a.tops f (next_top a (length a.versions + 1))) (placed-set a.tops f p.current.top (next_top a (length a.versions + 1)) p.current.at).here m w));
         families = placed-same a.families f p.family p.family_at;

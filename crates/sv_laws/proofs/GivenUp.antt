@@ -36,11 +36,17 @@ given-up a b k f n h =
       metas = continues-itself a.metas;
       metas_are = k.lawful.metas ∙ sym (marked-captured_numbers n Pending Obsolete a.files.numbers b.files.numbers s.numbers);
       cuts = k.lawful.cuts;
-      clear = λ g m i. inl (record { captured_is = (settled_other f n Obsolete a.files b.files s g m.number i.captured_is).1; covered = i.covered });
+      clear = λ g m i. inl (record {
+        captured_is = (settled_other f n Obsolete a.files b.files s g m.number i.captured_is).1;
+        covered = i.covered;
+      });
       next = omega (arith, ap (λ (F : FileRegister). F.next) s.rest);
       live = λ m. (
         λ w. marked-keeps n Pending Obsolete a.files.numbers b.files.numbers s.numbers m Live (λ q. pending_live (sym q)) w,
-        λ w. ⊎_elim (λ o. o) (λ o. live_obsolete o.1) (marked_is n Pending Obsolete a.files.numbers b.files.numbers s.numbers m Live w),
+        λ w. ⊎_elim
+            (λ o. o)
+            (λ o. live_obsolete o.1)
+            (marked_is n Pending Obsolete a.files.numbers b.files.numbers s.numbers m Live w),
       );
       few = omega (arith, k.lawful.limits.captured, marked-captures n Pending Obsolete a.files.numbers b.files.numbers s.numbers);
       holds = subst (Every (λ i. i ≤ 255)) (ap (λ (F : FileRegister). F.holds) (sym s.rest)) k.lawful.limits.holds;

@@ -21,7 +21,8 @@ set-self (y ∷ l) (suc f) x e = ap (λ z. y ∷ z) (set-self l f x e)
 
 -- a family with a handle is not retired
 pub not-retired : (y : Family) (lane : ℕ) → slice_get y.handles lane ≡ Some true → is_retired y ≡ false
-not-retired y lane e = by y.dropped (total bit y.handles == 0) (ne_eqb (total bit y.handles) 0 (λ q. omega (arith, total_at bit y.handles lane true e, q)))
+not-retired y lane e =
+    by y.dropped (total bit y.handles == 0) (ne_eqb (total bit y.handles) 0 (λ q. omega (arith, total_at bit y.handles lane true e, q)))
   where
     by : (b c : Bool) → c ≡ false → (b && c) ≡ false
     by true c h = h
@@ -69,7 +70,9 @@ module _ (a b : Books) (k : Sound a) (f : ℕ) where
       })
 
   default-stands : (y : Family) → slice_get a.families f ≡ Some y → f ≡ 0 → y.dropped ≡ false
-  default-stands y e q = let d = k.lawful.default in ap (λ (z : Family). z.dropped) (some (sym e ∙ ap (slice_get a.families) q ∙ d.at)) ∙ d.stands
+  default-stands y e q =
+      let d = k.lawful.default in
+      ap (λ (z : Family). z.dropped) (some (sym e ∙ ap (slice_get a.families) q ∙ d.at)) ∙ d.stands
 
   pub opened : (lane : ℕ) → IsOpened a b f lane → Sound b × After a b
   opened lane h =

@@ -89,7 +89,11 @@ module _ (a b : Books) (k : Sound a) (f : ℕ) (r : Family) (x : SuperVersion) (
         (λ q. has-new (UsesList l) a.supers x (record { live = h.live; is = sym q.1.is_list }))
         (grown_entry PL a.lists b.lists h.lists l w.it w.at),
     λ w. ⊎_elim
-        (λ o. let t = (law.lists l).1 o in record { it = t.it; at = grown-old PL a.lists b.lists h.lists l t.it t.at; live = t.live })
+        (λ o. let t = (law.lists l).1 o in record {
+          it = t.it;
+          at = grown-old PL a.lists b.lists h.lists l t.it t.at;
+          live = t.live;
+        })
         (λ o. subst (IsLive list_live b.lists) o.is h.list_lives)
         (has_push (UsesList l) a.supers x w),
   )
@@ -103,12 +107,28 @@ module _ (a b : Books) (k : Sound a) (f : ℕ) (r : Family) (x : SuperVersion) (
       let had = h.had w.top (ap (slice_get a.tops) (sym q) ∙ w.on) in
       let t = law.tops w.id had.0 w.family w.top w.at w.on had.1 in
       inl (has-old (UsesVersion v) a.supers x (had.0, t.it, t.at, record { live = t.live; is = t.last_is ∙ w.is })))
-      (λ q. inr (record { id = w.id; family = w.family; top = w.top; at = h.families.others w.id q ∙ w.at; on = h.tops.others w.id q ∙ w.on; stands = w.stands; is = w.is }))
+      (λ q. inr (record {
+        id = w.id;
+        family = w.family;
+        top = w.top;
+        at = h.families.others w.id q ∙ w.at;
+        on = h.tops.others w.id q ∙ w.on;
+        stands = w.stands;
+        is = w.is;
+      }))
 
   last-from : (v : ℕ) → HasLast v b.families b.tops → IsLive version_live b.versions v
   last-from v w = ⊎_elim
       (λ q. subst (IsLive version_live b.versions) (ap (λ (t : Top). t.last) (sym q.1) ∙ w.is) h.version_lives)
-      (λ q. live-v v ((law.versions v).1 (inr (record { id = w.id; family = w.family; top = w.top; at = sym (h.families.others w.id q.0) ∙ w.at; on = q.1; stands = w.stands; is = w.is }))))
+      (λ q. live-v v ((law.versions v).1 (inr (record {
+        id = w.id;
+        family = w.family;
+        top = w.top;
+        at = sym (h.families.others w.id q.0) ∙ w.at;
+        on = q.1;
+        stands = w.stands;
+        is = w.is;
+      }))))
       (placed_get a.tops b.tops f top h.tops w.id w.top w.on)
 
   pub versions_law : (v : ℕ) → IsLive version_live b.versions v ↔ NamedVersion S b.families b.tops v
@@ -133,13 +153,24 @@ module _ (a b : Books) (k : Sound a) (f : ℕ) (r : Family) (x : SuperVersion) (
       (λ q. inl (subst (λ (F : FileRegister). IsRegistered F.numbers n Live) q w))
       (λ o. ⊎_elim
       (λ e. inl e)
-      (λ e. inr (x.descriptor.version, o.it, o.at, record { live = ap (λ (v : Version). v.live) (some (sym o.at ∙ h.version_lives.at)) ∙ h.version_lives.live; has = subst (λ i. In i (numbers_of o.it.files)) (sym e.0) o.has }))
+      (λ e. inr (
+        x.descriptor.version,
+        o.it,
+        o.at,
+        record {
+          live = ap (λ (v : Version). v.live) (some (sym o.at ∙ h.version_lives.at)) ∙ h.version_lives.live;
+          has = subst (λ i. In i (numbers_of o.it.files)) (sym e.0) o.has;
+        },
+      ))
       (marked_is o.number Pending Live a.files.numbers b.files.numbers o.settled.numbers n Live w))
       h.files
 
   pub files_law : (n : ℕ) → IsRegistered b.files.numbers n Live ↔ NamedFile b.versions n
   files_law n = (
-    λ w. ⊎_elim (λ o. grown-has PV a.versions b.versions h.versions (HasFile n) ((law.files n).0 o)) (λ o. o) (live_n n w),
+    λ w. ⊎_elim
+        (λ o. grown-has PV a.versions b.versions h.versions (HasFile n) ((law.files n).0 o))
+        (λ o. o)
+        (live_n n w),
     λ w. ⊎_elim
         (λ o. live-n n ((law.files n).1 (w.0, w.1, o, w.3)))
         (λ o. o.1.files n w.3.has)

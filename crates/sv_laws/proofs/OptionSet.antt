@@ -36,9 +36,32 @@ module _ (a b : Books) (k : Sound a) (f : ℕ) where
         active_live = active-lives a k f h.s c p;
         list_lives = list-lives a k f h.s c p;
         version_lives = version-lives a k f h.s c p;
-        describes = record { active = d.active; active_at = d.active_at; active_family = d.active_family; base = d.base; within = d.within; list = d.list; list_at = d.list_at; version = d.version; version_at = d.version_at; middle = d.middle; files = d.files; members = d.members };
+        describes = record {
+          active = d.active;
+          active_at = d.active_at;
+          active_family = d.active_family;
+          base = d.base;
+          within = d.within;
+          list = d.list;
+          list_at = d.list_at;
+          version = d.version;
+          version_at = d.version_at;
+          middle = d.middle;
+          files = d.files;
+          members = d.members;
+        };
         ends = ends-at a k f h.s c p;
-        awaited = λ n q. let w = k.steady.awaited f n h.s c q p.current in record { file = w.file; covered = w.covered; number_is = w.number_is; some = w.some; list = w.list; list_at = w.list_at; version = w.version; version_at = w.version_at; fits = w.fits };
+        awaited = λ n q. let w = k.steady.awaited f n h.s c q p.current in record {
+          file = w.file;
+          covered = w.covered;
+          number_is = w.number_is;
+          some = w.some;
+          list = w.list;
+          list_at = w.list_at;
+          version = w.version;
+          version_at = w.version_at;
+          fits = w.fits;
+        };
         lasts = λ file w. inl (last-still a k f h.s c p (set a.tops f (next_top a c.descriptor.version)) (placed-set a.tops f p.current.top (next_top a c.descriptor.version) p.current.at).here file w);
         families = placed-set a.families f p.family (record p.family { options = o }) p.family_at;
         tops = placed-set a.tops f p.current.top (next_top a c.descriptor.version) p.current.at;

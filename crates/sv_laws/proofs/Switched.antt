@@ -39,15 +39,27 @@ module _ (a b : Books) (k : Sound a) (f : ℕ) where
         lists = a.lists ++ z ∷ [];
         tops = set a.tops f (next_top a c.descriptor.version);
       } in
-      let old : MembersJoin a.journal a.memtables c.descriptor.family d.middle h.list.members c.descriptor.base = subst (λ (u : MemtableList). MembersJoin a.journal a.memtables c.descriptor.family d.middle u.members c.descriptor.base) (some (sym d.list_at ∙ h.list_at)) d.members in
-      let last : MembersJoin a.journal a.memtables c.descriptor.family c.descriptor.base (c.descriptor.active ∷ []) n = (record { it = d.active; at = d.active_at; family_is = d.active_family; first_is = sym d.base; some = h.row }, ends-at a k f h.s c p) in
+      let old : MembersJoin a.journal a.memtables c.descriptor.family d.middle h.list.members c.descriptor.base =
+      subst (λ (u : MemtableList). MembersJoin a.journal a.memtables c.descriptor.family d.middle u.members c.descriptor.base) (some (sym d.list_at ∙ h.list_at)) d.members in
+      let last : MembersJoin a.journal a.memtables c.descriptor.family c.descriptor.base (c.descriptor.active ∷ []) n =
+      (record { it = d.active; at = d.active_at; family_is = d.active_family; first_is = sym d.base; some = h.row }, ends-at a k f h.s c p) in
       let all = join-append a.journal a.memtables c.descriptor.family h.list.members (c.descriptor.active ∷ []) d.middle c.descriptor.base n old last in
       subst (λ (u : Books). Sound u × After a u) (sym h.is) (installed a e k f p.family x (record {
         rest = refl;
         family_is = of;
         live = refl;
         room = h.room;
-        memtables = inr (y, refl, record { is_active = refl; live = refl; family_is = refl; first_is = refl; room = h.cell_room });
+        memtables = inr (
+          y,
+          refl,
+          record {
+            is_active = refl;
+            live = refl;
+            family_is = refl;
+            first_is = refl;
+            room = h.cell_room;
+          },
+        );
         lists = inr (
           z,
           refl,
