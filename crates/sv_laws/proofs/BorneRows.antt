@@ -19,7 +19,8 @@ filter-push p (v ∷ J) w = by (p v) (filter-push p J w)
 -- a memtable that the write does not bear has the same rows
 pub borne-other : (m : ℕ) (J : List Write) (w : Write) → w.mem ≢ m → borne_by m (J ++ w ∷ []) ≡ borne_by m J
 borne-other m J w d =
-    filter-push (λ v. v.mem == m) J w ∙ ap (λ b. borne_by m J ++ cond b (w ∷ []) []) (ne_eqb w.mem m d) ∙ append-nil (borne_by m J)
+    filter-push (λ v. v.mem == m) J w ∙ ap (λ b. borne_by m J ++ cond b (w ∷ []) []) (ne_eqb w.mem m d)
+    ∙ append-nil (borne_by m J)
 
 pub borne-same : (J : List Write) (w : Write) → borne_by w.mem (J ++ w ∷ []) ≡ borne_by w.mem J ++ w ∷ []
 borne-same J w =
@@ -27,18 +28,21 @@ borne-same J w =
 
 pub family-same : (J : List Write) (w : Write) → of_family w.family (J ++ w ∷ []) ≡ of_family w.family J ++ w ∷ []
 family-same J w =
-    filter-push (λ v. v.family == w.family) J w ∙ ap (λ b. of_family w.family J ++ cond b (w ∷ []) []) (eq-eqb w.family w.family refl)
+    filter-push (λ v. v.family == w.family) J w
+    ∙ ap (λ b. of_family w.family J ++ cond b (w ∷ []) []) (eq-eqb w.family w.family refl)
 
 pub family-other : (f : ℕ) (J : List Write) (w : Write) → w.family ≢ f → of_family f (J ++ w ∷ []) ≡ of_family f J
 family-other f J w d =
-    filter-push (λ v. v.family == f) J w ∙ ap (λ b. of_family f J ++ cond b (w ∷ []) []) (ne_eqb w.family f d) ∙ append-nil (of_family f J)
+    filter-push (λ v. v.family == f) J w ∙ ap (λ b. of_family f J ++ cond b (w ∷ []) []) (ne_eqb w.family f d)
+    ∙ append-nil (of_family f J)
 
 -- rows that stood in the family's writes stand there when one comes after
 pub rows-stand : (rows F : List Write) (a : ℕ) (w : Write) → rows ≡ take (length rows) (drop a F) → a ≤ length F
     → rows ≡ take (length rows) (drop a (F ++ w ∷ []))
 rows-stand rows F a w h le =
     let n : length rows ≤ length (drop a F) = omega (arith, ap length h, length-take (length rows) (drop a F)) in
-    h ∙ sym (ap (take (length rows)) (drop-append-le a F (w ∷ []) le) ∙ take-append-le (length rows) (drop a F) (w ∷ []) n)
+    h
+    ∙ sym (ap (take (length rows)) (drop-append-le a F (w ∷ []) le) ∙ take-append-le (length rows) (drop a F) (w ∷ []) n)
 
 -- and the rows of the memtable that ends where the family's writes do go on with it
 pub rows-grow : (rows F : List Write) (a : ℕ) (w : Write) → rows ≡ take (length rows) (drop a F)
@@ -61,13 +65,15 @@ pub unowned : (J : List Write) (f : ℕ) → ((i : ℕ) (w : Write) → slice_ge
     → of_family f J ≡ []
 unowned [] f h = refl
 unowned (w ∷ J) f h =
-    ap (λ b. cond b (w ∷ of_family f J) (of_family f J)) (ne_eqb w.family f (λ q. let lt = h 0 w refl in omega arith)) ∙ unowned J f (λ i. h (suc i))
+    ap (λ b. cond b (w ∷ of_family f J) (of_family f J)) (ne_eqb w.family f (λ q. let lt = h 0 w refl in omega arith))
+    ∙ unowned J f (λ i. h (suc i))
 
 -- no write bears this memtable
 pub unborne : (J : List Write) (m : ℕ) → ((i : ℕ) (w : Write) → slice_get J i ≡ Some w → w.mem < m) → borne_by m J ≡ []
 unborne [] m h = refl
 unborne (w ∷ J) m h =
-    ap (λ b. cond b (w ∷ borne_by m J) (borne_by m J)) (ne_eqb w.mem m (λ q. let lt = h 0 w refl in omega arith)) ∙ unborne J m (λ i. h (suc i))
+    ap (λ b. cond b (w ∷ borne_by m J) (borne_by m J)) (ne_eqb w.mem m (λ q. let lt = h 0 w refl in omega arith))
+    ∙ unborne J m (λ i. h (suc i))
 
 -- a write bears one of the memtables, or none
 pub mem-within : (memtables families : ℕ) (w : Write) → IsBorne memtables families w → w.mem ≤ memtables

@@ -135,7 +135,8 @@ module _ (a b : Books) (k : Sound a) (s : ℕ) (x : SuperVersion) (h : IsCleaned
         (λ q. not_live (sym (ap (λ (w : SuperVersion). w.live) q.1) ∙ live))
         (λ q. describes-on a.files.numbers N gn a.metas a.metas gx a.journal a.memtables b.memtables a.lists b.lists a.versions b.versions gm gl gv r.descriptor (law.descriptors i r q.1 live))
         (entry_change a.supers s i y r at);
-    lasts = λ g t te. last-on a.files.numbers N gn a.metas a.metas gx a.journal a.versions b.versions gv g t.last (law.lasts g t te);
+    lasts = λ g t te.
+        last-on a.files.numbers N gn a.metas a.metas gx a.journal a.versions b.versions gv g t.last (law.lasts g t te);
     rows = λ m it at. let t = goes-back KeepsMemtable a.memtables b.memtables gm h.memtables.long m it at in let w = law.rows m t.0 t.1 in
         record {
           within = omega (arith, w.within, t.2.first, ap (λ i. length (of_family i a.journal)) t.2.family);
@@ -197,20 +198,23 @@ module _ (a b : Books) (k : Sound a) (s : ℕ) (x : SuperVersion) (h : IsCleaned
       record {
         it = u.0;
         at = u.1;
-        before = λ j w c. o.before j w (subst (λ g. IsCurrent a.tops a.supers g j w) u.2.family (current_back u.0.family j w c));
+        before = λ j w c.
+            o.before j w (subst (λ g. IsCurrent a.tops a.supers g j w) u.2.family (current_back u.0.family j w c));
       }
 
   sound : Sound e
   sound = record {
     lawful = lawful;
     steady = record {
-      borne = λ i w at. borne-on (length a.memtables) (length a.families) (length b.memtables) (length a.families) w (omega (arith, h.memtables.long)) (omega arith) (k.steady.borne i w at);
+      borne = λ i w at.
+          borne-on (length a.memtables) (length a.families) (length b.memtables) (length a.families) w (omega (arith, h.memtables.long)) (omega arith) (k.steady.borne i w at);
       supers_of = λ n r at. ⊎_elim
           (λ q. omega (arith, k.steady.supers_of s x h.at, ap (λ (u : SuperVersion). u.descriptor.family) q.1))
           (λ q. k.steady.supers_of n r q.1)
           (entry_change a.supers s n y r at);
       listed = listed_law;
-      awaited = λ g n i z ca cur. awaited-on a.files.numbers N gn a.metas a.metas gx a.journal a.memtables b.memtables a.lists b.lists a.versions b.versions gm gl gv n z.descriptor (k.steady.awaited g n i z ca (current_back g i z cur));
+      awaited = λ g n i z ca cur.
+          awaited-on a.files.numbers N gn a.metas a.metas gx a.journal a.memtables b.memtables a.lists b.lists a.versions b.versions gm gl gv n z.descriptor (k.steady.awaited g n i z ca (current_back g i z cur));
       covers = k.steady.covers;
       retired = k.steady.retired;
       busy = k.steady.busy;
@@ -305,7 +309,8 @@ module _ (a b : Books) (k : Sound a) (s : ℕ) (x : SuperVersion) (h : IsCleaned
       → z.live ≡ true → z.cell ≡ c → ⊥
   went-free c w m z at live q =
       let t = goes-back KeepsMemtable a.memtables b.memtables gm h.memtables.long m z at in
-      let same = (law.cells w.id w.it w.at w.was_live).1 m t.0 t.1 (live-back t.0.live z.live t.2.gone live) (sym t.2.cell ∙ q ∙ sym w.is) in
+      let same =
+      (law.cells w.id w.it w.at w.was_live).1 m t.0 t.1 (live-back t.0.live z.live t.2.gone live) (sym t.2.cell ∙ q ∙ sym w.is) in
       w.gone (record { it = z; at = ap (entry b.memtables) (sym same) ∙ at; live = live })
 
   -- one memtable went from a cell

@@ -80,7 +80,8 @@ module _ (a b : Books) (k : Sound a) (f : ℕ) (file : FileMeta) where
           middle = d.middle;
           files = record {
             joins = (merge.from_is, ends);
-            each = λ i m q. subst (IsFileOf b.files.numbers a.metas c.descriptor.family) (sym (get_one file i m q).1) (file-of a b k f h.s c p file h.covered h.settled);
+            each = λ i m q.
+                subst (IsFileOf b.files.numbers a.metas c.descriptor.family) (sym (get_one file i m q).1) (file-of a b k f h.s c p file h.covered h.settled);
             above = λ i m q low. absurd (omega (arith, (get_one file i m q).0));
           };
           members = d.members;

@@ -102,7 +102,8 @@ module _ (Named : ℕ → Type 0) (N K : List RegisteredFile) (h : EndsFiles Nam
 
   pub numbers-ended : (C : List (Option ℕ)) (next : ℕ) → NumbersStand N C next → NumbersStand K C next
   numbers-ended C next law = record {
-    once = λ n. omega (arith, law.once n, total-same (TurnsFile Named) (λ x. same n x.number) (λ x y t. ap (same n) (number_same x y t)) N K h.long h.goes);
+    once = λ n.
+        omega (arith, law.once n, total-same (TurnsFile Named) (λ x. same n x.number) (λ x y t. ap (same n) (number_same x y t)) N K h.long h.goes);
     below = λ i y e. let t = goes-back (TurnsFile Named) N K h.goes h.long i y e in omega (arith, law.below i t.0 t.1, number_same t.0 y t.2);
     pending = λ i y e p. let t = goes-back (TurnsFile Named) N K h.goes h.long i y e in let u = not-turned t.0 y t.2 (inl p) in
         let w = law.pending i t.0 t.1 (ap (λ (z : RegisteredFile). z.status) (sym u.0) ∙ p) in

@@ -160,7 +160,9 @@ module _ (a b : Books) (k : Sound a) (f : ℕ) (o y : Family) (t u : Top) (h : C
       (λ q. record {
         it = y;
         at = ap (slice_get G) q ∙ pf.here;
-        name_is = h.name_is ∙ ap (λ (j : Family). j.name) (some (sym h.at ∙ ap (slice_get a.families) (sym q) ∙ law.default.at)) ∙ law.default.name_is;
+        name_is = h.name_is
+            ∙ ap (λ (j : Family). j.name) (some (sym h.at ∙ ap (slice_get a.families) (sym q) ∙ law.default.at))
+            ∙ law.default.name_is;
         stands = h.default (sym q);
       })
       (λ q. record {
@@ -225,7 +227,8 @@ module _ (a b : Books) (k : Sound a) (f : ℕ) (o y : Family) (t u : Top) (h : C
       };
     };
     steady = record {
-      borne = λ i w at. borne-on (length a.memtables) (length a.families) (length a.memtables) (length G) w (omega arith) (omega (arith, length-set a.families f y)) (k.steady.borne i w at);
+      borne = λ i w at.
+          borne-on (length a.memtables) (length a.families) (length a.memtables) (length G) w (omega arith) (omega (arith, length-set a.families f y)) (k.steady.borne i w at);
       supers_of = λ n x at. omega (arith, k.steady.supers_of n x at, length-set a.families f y);
       listed = λ l m z at i. let j = k.steady.listed l m z at i in record {
         it = j.it;

@@ -44,8 +44,10 @@ module _ (a b : Books) (k : Sound a) (h : ChangesFiles a b) where
       lists = law.lists;
       versions = law.versions;
       files = λ n. (λ w. (law.files n).0 ((h.live n).1 w), λ w. (h.live n).0 ((law.files n).1 w));
-      descriptors = λ i r at live. describes-on a.files.numbers b.files.numbers h.goes a.metas b.metas gx a.journal a.memtables a.memtables a.lists a.lists a.versions a.versions gm gl gv r.descriptor (law.descriptors i r at live);
-      lasts = λ g t te. last-on a.files.numbers b.files.numbers h.goes a.metas b.metas gx a.journal a.versions a.versions gv g t.last (law.lasts g t te);
+      descriptors = λ i r at live.
+          describes-on a.files.numbers b.files.numbers h.goes a.metas b.metas gx a.journal a.memtables a.memtables a.lists a.lists a.versions a.versions gm gl gv r.descriptor (law.descriptors i r at live);
+      lasts = λ g t te.
+          last-on a.files.numbers b.files.numbers h.goes a.metas b.metas gx a.journal a.versions a.versions gv g t.last (law.lasts g t te);
       rows = law.rows;
       tops = law.tops;
       paired = law.paired;

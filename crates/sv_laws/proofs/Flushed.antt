@@ -61,7 +61,8 @@ module _ (a b : Books) (k : Sound a) (f : ℕ) (file : FileMeta) where
       let flush = is-flush a b k f h.s c p file h.covered h.settled h.kind h.list h.list_at h.version h.version_at in
       let old = says-files a b k f h.s c p file h.covered h.settled h.version h.version_at in
       let g = gn a b k f h.s c p file h.covered h.settled in
-      let x : SuperVersion = live_super (record c.descriptor { list = length a.lists + 1; version = length a.versions + 1 }) h.place in
+      let x : SuperVersion =
+      live_super (record c.descriptor { list = length a.lists + 1; version = length a.versions + 1 }) h.place in
       let z : MemtableList = record { members = h.back; live = true } in
       let v : Version = record { files = h.version.files ++ file ∷ []; live = true } in
       let e : Books = record a {
@@ -76,7 +77,8 @@ module _ (a b : Books) (k : Sound a) (f : ℕ) (file : FileMeta) where
       let members : MembersJoin a.journal a.memtables c.descriptor.family file.from (flush.front ++ flush.back) c.descriptor.base =
       subst (λ ms. MembersJoin a.journal a.memtables c.descriptor.family file.from ms c.descriptor.base) (ap (λ (l : MemtableList). l.members) (some (sym d.list_at ∙ h.list_at)) ∙ flush.parts)
       (subst (λ i. MembersJoin a.journal a.memtables c.descriptor.family i d.list.members c.descriptor.base) (sym begins) d.members) in
-      let left = parted-join a.journal a.memtables c.descriptor.family flush.front flush.back h.parted.front h.back file.from file.to c.descriptor.base flush.joins members (sym flush.parts ∙ h.parted.parts) h.parted.low h.parted.high in
+      let left =
+      parted-join a.journal a.memtables c.descriptor.family flush.front flush.back h.parted.front h.back file.from file.to c.descriptor.base flush.joins members (sym flush.parts ∙ h.parted.parts) h.parted.low h.parted.high in
       let joins = files-join-push h.version.files file 0 d.middle old.joins begins in
       subst (λ (u : Books). Sound u × After a u) (sym h.is) (installed a e k f p.family x (record {
         rest = refl;
@@ -90,7 +92,8 @@ module _ (a b : Books) (k : Sound a) (f : ℕ) (file : FileMeta) where
           record {
             is_list = refl;
             live = refl;
-            members = λ m i. member a k f h.s c p m h.list h.list_at (subst (In m) (sym h.parted.parts) (in-right m h.parted.front h.back i));
+            members = λ m i.
+                member a k f h.s c p m h.list h.list_at (subst (In m) (sym h.parted.parts) (in-right m h.parted.front h.back i));
           },
         );
         versions = inr (

@@ -34,7 +34,8 @@ given-up a b k f n h =
       numbers = numbers-settled f n Obsolete a.files b.files s k.lawful.numbers (λ q. obsolete_pending q) (λ q. obsolete_grabbed q);
       goes = marked-goes n Pending Obsolete a.files.numbers b.files.numbers s.numbers (λ q. pending_gone q);
       metas = continues-itself a.metas;
-      metas_are = k.lawful.metas ∙ sym (marked-captured_numbers n Pending Obsolete a.files.numbers b.files.numbers s.numbers);
+      metas_are = k.lawful.metas
+          ∙ sym (marked-captured_numbers n Pending Obsolete a.files.numbers b.files.numbers s.numbers);
       cuts = k.lawful.cuts;
       clear = λ g m i. inl (record {
         captured_is = (settled_other f n Obsolete a.files b.files s g m.number i.captured_is).1;
@@ -52,7 +53,8 @@ given-up a b k f n h =
       holds = subst (Every (λ i. i ≤ 255)) (ap (λ (F : FileRegister). F.holds) (sym s.rest)) k.lawful.limits.holds;
       lanes = ap (λ (F : FileRegister). length F.holds) s.rest ∙ k.steady.holds;
       jobs = omega (arith, k.lawful.limits.jobs, ap (λ (F : FileRegister). F.jobs) s.rest);
-      families = ap length (settled-captured f n Obsolete a.files b.files s) ∙ length-change a.files.captured (suc f) None ∙ k.steady.captured;
+      families = ap length (settled-captured f n Obsolete a.files b.files s)
+          ∙ length-change a.files.captured (suc f) None ∙ k.steady.captured;
       covers = λ g m w q i r. k.steady.covers g m w (settled_other f n Obsolete a.files b.files s g m q).1 i r;
       busy = λ g m q. k.steady.busy g m (settled_other f n Obsolete a.files b.files s g m q).1;
       awaited = λ g m i x q c. k.steady.awaited g m i x (settled_other f n Obsolete a.files b.files s g m q).1 c;

@@ -66,7 +66,8 @@ module _ (a b : Books) (k : Sound a) (f : ℕ) where
         back = λ _. not-retired h.it lane h.handle;
         ended = λ r. false_true (sym open_ ∙ r);
         had = λ r. false_true (sym open_ ∙ r);
-        is = h.is ∙ ap (λ (T : List Top). record a { families = set a.families f y; tops = T }) (sym (set-self a.tops f t.0 t.1));
+        is = h.is
+            ∙ ap (λ (T : List Top). record a { families = set a.families f y; tops = T }) (sym (set-self a.tops f t.0 t.1));
       })
 
   default-stands : (y : Family) → slice_get a.families f ≡ Some y → f ≡ 0 → y.dropped ≡ false
@@ -92,7 +93,8 @@ module _ (a b : Books) (k : Sound a) (f : ℕ) where
         back = λ _. not-retired-open h.it h.stands;
         ended = λ r. false_true (sym open_ ∙ r);
         had = λ r. false_true (sym open_ ∙ r);
-        is = h.is ∙ ap (λ (T : List Top). record a { families = set a.families f y; tops = T }) (sym (set-self a.tops f t.0 t.1));
+        is = h.is
+            ∙ ap (λ (T : List Top). record a { families = set a.families f y; tops = T }) (sym (set-self a.tops f t.0 t.1));
       })
 
   pub let-go : (lane : ℕ) → IsReleased a b f lane → Sound b × After a b
@@ -112,7 +114,8 @@ module _ (a b : Books) (k : Sound a) (f : ℕ) where
         back = λ _. not-retired h.it lane h.handle;
         ended = λ r. false_true (sym h.kept ∙ r);
         had = λ r. false_true (sym h.kept ∙ r);
-        is = h.is ∙ ap (λ (T : List Top). record a { families = set a.families f y; tops = T }) (sym (set-self a.tops f t.0 t.1));
+        is = h.is
+            ∙ ap (λ (T : List Top). record a { families = set a.families f y; tops = T }) (sym (set-self a.tops f t.0 t.1));
       })
 
   pub retired : (lane : ℕ) → IsRetired a b f lane → Sound b × After a b
@@ -149,5 +152,6 @@ module _ (a b : Books) (k : Sound a) (f : ℕ) where
         back = λ e. e;
         ended = λ _. refl;
         had = λ r q. false_true (sym q ∙ r);
-        is = h.is ∙ ap (λ (F : List Family). record a { families = F; tops = set a.tops f (record h.top { current = None }) }) (sym (set-self a.families f h.it h.at));
+        is = h.is
+            ∙ ap (λ (F : List Family). record a { families = F; tops = set a.tops f (record h.top { current = None }) }) (sym (set-self a.families f h.it h.at));
       })

@@ -230,7 +230,8 @@ module _ (a b : Books) (k : Sound a) (f : ℕ) (r : Family) (x : SuperVersion) (
       (λ o.
       let t = h.describes in
       let z_is : z ≡ t.list = some (sym e ∙ ap (entry b.lists) o.1.is_list ∙ t.list_at) in
-      let w = join_in a.journal b.memtables d.family t.list.members t.middle d.base m t.members (subst (λ (u : MemtableList). In m u.members) z_is i) in
+      let w =
+      join_in a.journal b.memtables d.family t.list.members t.middle d.base m t.members (subst (λ (u : MemtableList). In m u.members) z_is i) in
       record {
         it = w.0;
         at = w.1;
@@ -250,7 +251,8 @@ module _ (a b : Books) (k : Sound a) (f : ℕ) (r : Family) (x : SuperVersion) (
 
   steady : Steady c
   steady = record {
-    borne = λ i w e. borne-on (length a.memtables) (length a.families) (length b.memtables) (length b.families) w (grown-longer PM a.memtables b.memtables h.memtables) h.more (k.steady.borne i w e);
+    borne = λ i w e.
+        borne-on (length a.memtables) (length a.families) (length b.memtables) (length b.families) w (grown-longer PM a.memtables b.memtables h.memtables) h.more (k.steady.borne i w e);
     supers_of = λ n s e. ⊎_elim
         (λ o. omega (arith, k.steady.supers_of n s o, h.more))
         (λ o. omega (arith, get_within b.families f r h.families.here, ap (λ (w : SuperVersion). w.descriptor.family) o.1, h.family_is))
@@ -265,7 +267,11 @@ module _ (a b : Books) (k : Sound a) (f : ℕ) (r : Family) (x : SuperVersion) (
     busy = λ g n e. dite (ℕ_discrete g f)
         (λ q. omega (arith, q, get_within b.families f r h.families.here))
         (λ q. omega (arith, k.steady.busy g n (sym (captured_back a b k f r x h g q) ∙ e), h.more));
-    captured = ⊎_elim (λ q. ap (λ (F : FileRegister). length F.captured) q) (λ o. ap length (settled-captured f o.number Live a.files b.files o.settled) ∙ length-change a.files.captured (suc f) None) h.files ∙ k.steady.captured;
+    captured = ⊎_elim
+        (λ q. ap (λ (F : FileRegister). length F.captured) q)
+        (λ o. ap length (settled-captured f o.number Live a.files b.files o.settled) ∙ length-change a.files.captured (suc f) None)
+        h.files
+        ∙ k.steady.captured;
     holds = ap length holds_same ∙ k.steady.holds;
     handles = λ g y e. ⊎_elim
         (λ q. ap (λ (u : Family). length u.handles) q.1 ∙ h.handles)
@@ -296,7 +302,8 @@ module _ (a b : Books) (k : Sound a) (f : ℕ) (r : Family) (x : SuperVersion) (
           ap (slice_get b.tops) q ∙ h.tops.here,
           record {
             reach = h.reach t (ap (slice_get a.tops) (sym q) ∙ e);
-            ended = λ _ none. absurd (let had = h.had t (ap (slice_get a.tops) (sym q) ∙ e) in none_some had.0 (sym none ∙ had.1));
+            ended = λ _ none.
+                absurd (let had = h.had t (ap (slice_get a.tops) (sym q) ∙ e) in none_some had.0 (sym none ∙ had.1));
           },
         ))
         (λ q. (

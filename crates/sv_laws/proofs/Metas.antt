@@ -88,7 +88,8 @@ pub captured_numbers-push : (l : List RegisteredFile) (x : RegisteredFile)
     → captured_numbers (l ++ x ∷ []) ≡ captured_numbers l ++ cond (is_some x.family) (x.number ∷ []) []
 captured_numbers-push [] x = captured-cons x []
 captured_numbers-push (y ∷ l) x =
-    captured-cons y (l ++ x ∷ []) ∙ by (is_some y.family) (captured_numbers-push l x) ∙ ap (λ k. k ++ cond (is_some x.family) (x.number ∷ []) []) (sym (captured-cons y l))
+    captured-cons y (l ++ x ∷ []) ∙ by (is_some y.family) (captured_numbers-push l x)
+    ∙ ap (λ k. k ++ cond (is_some x.family) (x.number ∷ []) []) (sym (captured-cons y l))
   where
     by : (b : Bool) → captured_numbers (l ++ x ∷ []) ≡ captured_numbers l ++ cond (is_some x.family) (x.number ∷ []) []
         → cond b (y.number ∷ captured_numbers (l ++ x ∷ [])) (captured_numbers (l ++ x ∷ [])) ≡ cond b (y.number ∷ captured_numbers l) (captured_numbers l) ++ cond (is_some x.family) (x.number ∷ []) []
@@ -116,7 +117,8 @@ captured-in (y ∷ l) zero x e p =
     let q : y ≡ x = some e in
     record {
       at = 0;
-      is = ap (λ k. slice_get k 0) (captured-cons y l ∙ ap (λ b. cond b (y.number ∷ captured_numbers l) (captured_numbers l)) (ap (λ (z : RegisteredFile). is_some z.family) q ∙ p)) ∙ ap (λ (z : RegisteredFile). Some z.number) q;
+      is = ap (λ k. slice_get k 0) (captured-cons y l ∙ ap (λ b. cond b (y.number ∷ captured_numbers l) (captured_numbers l)) (ap (λ (z : RegisteredFile). is_some z.family) q ∙ p))
+          ∙ ap (λ (z : RegisteredFile). Some z.number) q;
     }
 captured-in (y ∷ l) (suc i) x e p =
     subst (In x.number) (sym (captured-cons y l)) (by (is_some y.family) (captured-in l i x e p))
@@ -154,7 +156,8 @@ module _ (numbers : List RegisteredFile) (captured : List (Option ℕ)) (next : 
   pub drawn : (m : FileMeta) → In m metas → m.number < next
   drawn m i =
       let more = times_in m.number (captured_numbers numbers) (record { at = i.at; is = at m i }) in
-      let t = at_total (λ (x : RegisteredFile). same m.number x.number) numbers (omega (arith, more, captured-le m.number numbers)) in
+      let t =
+      at_total (λ (x : RegisteredFile). same m.number x.number) numbers (omega (arith, more, captured-le m.number numbers)) in
       omega (arith, law.below (suc t.0) t.1 t.2, same_is m.number t.1.number t.3)
 
   -- a captured number has one

@@ -186,10 +186,12 @@ midst-file Named old now then n left once h free mark = record {
   goes = λ i x e. let t = h.goes i x e in dite (ℕ_discrete i mark.at)
       (λ q.
       let y_is : t.0 ≡ mark.it = some (sym t.1 ∙ ap (entry now) q ∙ mark.found) in
-      let same : t.0 ≡ x = ⊎_elim (λ o. o) (λ o. live_obsolete (sym mark.had.status_is ∙ ap (λ (z : RegisteredFile). z.status) (sym y_is ∙ o.0))) t.2 in
+      let same : t.0 ≡ x =
+      ⊎_elim (λ o. o) (λ o. live_obsolete (sym mark.had.status_is ∙ ap (λ (z : RegisteredFile). z.status) (sym y_is ∙ o.0))) t.2 in
       let it_is : mark.it ≡ x = sym y_is ∙ same in (
         record mark.it { status = Obsolete },
-        ap (entry then) q ∙ ap (λ l. entry l mark.at) mark.marked ∙ entry-same now mark.at mark.it (record mark.it { status = Obsolete }) mark.found,
+        ap (entry then) q ∙ ap (λ l. entry l mark.at) mark.marked
+            ∙ entry-same now mark.at mark.it (record mark.it { status = Obsolete }) mark.found,
         inr (ap (λ (z : RegisteredFile). record z { status = Obsolete }) it_is, ap (λ (z : RegisteredFile). z.status) (sym it_is) ∙ mark.had.status_is, λ p. free (subst Named (ap (λ (z : RegisteredFile). z.number) (sym it_is) ∙ mark.had.number_is) p)),
       ))
       (λ q. (t.0, ap (λ l. entry l i) mark.marked ∙ entry-else now mark.at i (record mark.it { status = Obsolete }) q ∙ t.1, t.2));

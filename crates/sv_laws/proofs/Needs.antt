@@ -51,7 +51,8 @@ few-live J f (n ∷ ms) M from to j lives =
     let less = total-change (λ (x : Memtable). bit x.live) M n h.it y h.at in
     let rest = few-live J f ms N (from + length (borne_by n J)) to (join-on J M N goes f ms (from + length (borne_by n J)) to j.1)
     (λ m i. let o = lives m (in-suc m n ms i) in
-    let apart : m ≢ n = λ q. (let l = late J M f ms (from + length (borne_by n J)) to m h.it j.1 i (ap (entry M) q ∙ h.at) in let s : j.0.it ≡ h.it = some (sym j.0.at ∙ h.at) in omega (arith, l, j.0.first_is, j.0.some, ap (λ (x : Memtable). x.first) s)) in
+    let apart : m ≢ n =
+    λ q. (let l = late J M f ms (from + length (borne_by n J)) to m h.it j.1 i (ap (entry M) q ∙ h.at) in let s : j.0.it ≡ h.it = some (sym j.0.at ∙ h.at) in omega (arith, l, j.0.first_is, j.0.some, ap (λ (x : Memtable). x.first) s)) in
     record { it = o.it; at = entry-else M n m y apart ∙ o.at; live = o.live }) in
     omega (arith, rest, less, one)
 
@@ -95,7 +96,8 @@ module _ (a : Books) (k : Sound a) where
         subst (λ (u : MemtableList). MembersJoin J a.memtables g d.middle u.members c.descriptor.base) (some (sym d.list_at ∙ e)) d.members in
         let last : MembersJoin J a.memtables g c.descriptor.base (c.descriptor.active ∷ []) (c.descriptor.base + length (borne_by c.descriptor.active J)) =
         (record { it = d.active; at = d.active_at; family_is = d.active_family; first_is = sym d.base; some = row }, refl) in
-        let all = join-append J a.memtables g z.members (c.descriptor.active ∷ []) d.middle c.descriptor.base (c.descriptor.base + length (borne_by c.descriptor.active J)) old last in
+        let all =
+        join-append J a.memtables g z.members (c.descriptor.active ∷ []) d.middle c.descriptor.base (c.descriptor.base + length (borne_by c.descriptor.active J)) old last in
         let h = few-live J g (z.members ++ c.descriptor.active ∷ []) a.memtables d.middle (c.descriptor.base + length (borne_by c.descriptor.active J)) all
         (λ m i. ⊎_elim (λ j. (member a k f s c o m z e j).0) (λ j. ⊎_elim (λ q. subst (IsLive memtable_live a.memtables) (sym q) (active-lives a k f s c o)) (λ q. absurd (in-none m q)) (in-cons m c.descriptor.active [] j)) (in_append m z.members (c.descriptor.active ∷ []) i)) in
         omega (arith, h, k.lawful.limits.live_memtables, length-append z.members (c.descriptor.active ∷ []))

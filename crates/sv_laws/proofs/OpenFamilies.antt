@@ -77,7 +77,8 @@ module _ (a : Books) (k : Sound a) (f s : ℕ) (c : SuperVersion) (o : IsOpen a 
 
   pub ends-at : c.descriptor.base + length (borne_by c.descriptor.active a.journal) ≡ length (of_family f a.journal)
   ends-at =
-      ap (λ (w : SuperVersion). w.descriptor.base + length (borne_by w.descriptor.active a.journal)) (sym c_is) ∙ top-is.ends
+      ap (λ (w : SuperVersion). w.descriptor.base + length (borne_by w.descriptor.active a.journal)) (sym c_is)
+      ∙ top-is.ends
 
   pub says : Describes a.journal a.memtables a.lists a.versions a.files.numbers a.metas c.descriptor
   says = k.lawful.descriptors s c o.current.has c_live
@@ -99,7 +100,8 @@ module _ (a : Books) (k : Sound a) (f s : ℕ) (c : SuperVersion) (o : IsOpen a 
   member m z e i =
       let lives = list-lives in
       let h = k.steady.listed c.descriptor.list m z e i in
-      let w = join_in a.journal a.memtables c.descriptor.family says.list.members says.middle c.descriptor.base m says.members (subst (λ (u : MemtableList). In m u.members) (some (sym e ∙ says.list_at)) i) in
+      let w =
+      join_in a.journal a.memtables c.descriptor.family says.list.members says.middle c.descriptor.base m says.members (subst (λ (u : MemtableList). In m u.members) (some (sym e ∙ says.list_at)) i) in
       let of = ap (λ (u : Memtable). u.family) (some (sym h.at ∙ w.1)) ∙ w.2 ∙ of_f in (
         (k.lawful.memtables m).1 (inr (
           c.descriptor.list,
@@ -135,7 +137,8 @@ module _ (a : Books) (k : Sound a) (f s : ℕ) (c : SuperVersion) (o : IsOpen a 
   pub last-files : (t : Top) → slice_get a.tops f ≡ Some t → (v : Version)
       → entry a.versions c.descriptor.version ≡ Some v → files_of a.versions t.last ≡ v.files
   last-files t e v h =
-      ap (λ (u : Top). files_of a.versions u.last) (some (sym e ∙ o.current.at)) ∙ ap (files_of a.versions) (sym last_is) ∙ files-at a.versions c.descriptor.version v h
+      ap (λ (u : Top). files_of a.versions u.last) (some (sym e ∙ o.current.at))
+      ∙ ap (files_of a.versions) (sym last_is) ∙ files-at a.versions c.descriptor.version v h
 
   pub last-same : (t : Top) → slice_get a.tops f ≡ Some t
       → reach_of (files_of a.versions t.last) ≤ reach_of (files_of a.versions c.descriptor.version)

@@ -62,10 +62,12 @@ module _ (a b : Books) (k : Sound a) (f : ℕ) where
           version_at = w.version_at;
           fits = w.fits;
         };
-        lasts = λ file w. inl (last-still a k f h.s c p (set a.tops f (next_top a c.descriptor.version)) (placed-set a.tops f p.current.top (next_top a c.descriptor.version) p.current.at).here file w);
+        lasts = λ file w.
+            inl (last-still a k f h.s c p (set a.tops f (next_top a c.descriptor.version)) (placed-set a.tops f p.current.top (next_top a c.descriptor.version) p.current.at).here file w);
         families = placed-set a.families f p.family (record p.family { options = o }) p.family_at;
         tops = placed-set a.tops f p.current.top (next_top a c.descriptor.version) p.current.at;
-        paired = paired-set a k f h.s c p (next_top a c.descriptor.version) ∙ sym (length-set a.families f (record p.family { options = o }));
+        paired = paired-set a k f h.s c p (next_top a c.descriptor.version)
+            ∙ sym (length-set a.families f (record p.family { options = o }));
         more = omega (arith, length-set a.families f (record p.family { options = o }));
         few_families = omega (arith, length-set a.families f (record p.family { options = o }), k.lawful.limits.families);
         stands = p.stands;

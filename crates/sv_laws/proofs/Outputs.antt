@@ -98,7 +98,8 @@ module _ (a b : Books) (k : Sound a) (f s : ℕ) (c : SuperVersion) (p : IsOpen 
   pub none-captured : (n : ℕ) → slice_get b.files.captured f ≡ Some (Some n) → ⊥
   none-captured n e =
       let gone : slice_get b.files.captured f ≡ Some None =
-      ap (λ (l : List (Option ℕ)). slice_get l f) (settled-captured f file.number Live a.files b.files settled) ∙ entry-same a.files.captured (suc f) (Some file.number) None settled.was in
+      ap (λ (l : List (Option ℕ)). slice_get l f) (settled-captured f file.number Live a.files b.files settled)
+      ∙ entry-same a.files.captured (suc f) (Some file.number) None settled.was in
       none_some n (some (sym gone ∙ e))
 
   pub file-of : IsFileOf b.files.numbers a.metas c.descriptor.family file
@@ -131,7 +132,8 @@ module _ (a b : Books) (k : Sound a) (f s : ℕ) (c : SuperVersion) (p : IsOpen 
   last-output v T e m w =
       let W = a.versions ++ v ∷ [] in
       let last : w.top.last ≡ length a.versions + 1 = ap (λ (u : Top). u.last) (some (sym w.top_at ∙ e)) in
-      let same : w.version ≡ v = some (sym w.version_at ∙ ap (entry W) last ∙ entry-new a.versions v (length a.versions + 1) refl) in
+      let same : w.version ≡ v =
+      some (sym w.version_at ∙ ap (entry W) last ∙ entry-new a.versions v (length a.versions + 1) refl) in
       subst (λ (z : Version). In m z.files) same w.has
 
   -- the output was to be one

@@ -82,7 +82,8 @@ module _ (a b : Books) (k : Sound a) (h : ChangesGrabbed a b) where
 
   numbers : NumbersStand b.files.numbers a.files.captured a.files.next
   numbers = record {
-    once = λ n. omega (arith, law.once n, total-same R (λ x. same n x.number) (λ x y t. ap (same n) (number_is x y t)) a.files.numbers b.files.numbers h.long h.goes);
+    once = λ n.
+        omega (arith, law.once n, total-same R (λ x. same n x.number) (λ x y t. ap (same n) (number_is x y t)) a.files.numbers b.files.numbers h.long h.goes);
     below = λ i y at. let t = back i y at in omega (arith, law.below i t.0 t.1, number_is t.0 y t.2);
     pending = λ i y at p. let t = back i y at in let u = after_fixed t.0 y t.2 (inl p) in
         let w = law.pending i t.0 t.1 (ap (λ (z : RegisteredFile). z.status) (sym u) ∙ p) in
@@ -123,7 +124,8 @@ module _ (a b : Books) (k : Sound a) (h : ChangesGrabbed a b) where
       },
     );
     metas = continues-itself a.metas;
-    metas_are = k.lawful.metas ∙ sym (captured_numbers-goes R (λ x y t. (number_is x y t, family_is x y t)) a.files.numbers b.files.numbers h.long h.goes);
+    metas_are = k.lawful.metas
+        ∙ sym (captured_numbers-goes R (λ x y t. (number_is x y t, family_is x y t)) a.files.numbers b.files.numbers h.long h.goes);
     cuts = k.lawful.cuts;
     next = omega arith;
     live = λ n. (
@@ -198,7 +200,8 @@ strayed a b k n h =
       };
       goes = goes-push KeepsNumber a.files.numbers y number-itself;
       metas = continues-itself a.metas;
-      metas_are = k.lawful.metas ∙ sym (captured_numbers-push a.files.numbers y ∙ append-nil (captured_numbers a.files.numbers));
+      metas_are = k.lawful.metas
+          ∙ sym (captured_numbers-push a.files.numbers y ∙ append-nil (captured_numbers a.files.numbers));
       cuts = k.lawful.cuts;
       next = omega arith;
       live = λ m. (

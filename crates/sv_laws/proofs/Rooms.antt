@@ -25,7 +25,8 @@ make_fault supers =
 pub room-made : (supers : List SuperVersion) (place : ℕ) → make_fault supers ≡ None → place < 256
     → IsLeastFree super_live (λ s. s.place) supers place → HasRoom supers place
 room-made supers place none within least =
-    let f = not-due (nat_le 1048576 (length supers)) RegisterFull (cond (nat_le 256 (live_count super_live supers)) (Some TooManyLive) None) none in
+    let f =
+    not-due (nat_le 1048576 (length supers)) RegisterFull (cond (nat_le 256 (live_count super_live supers)) (Some TooManyLive) None) none in
     let g = not-due (nat_le 256 (live_count super_live supers)) TooManyLive None f.1 in
     record {
       few = below 1048576 (length supers) f.0;

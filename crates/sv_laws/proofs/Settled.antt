@@ -101,7 +101,8 @@ module _ (f n : ℕ) (now : FileStatus) (a b : FileRegister) (h : IsSettled f n 
 
   pub settled-others : (g : ℕ) → g ≢ f → slice_get b.captured g ≡ slice_get a.captured g
   settled-others g d =
-      ap (λ (l : List (Option ℕ)). slice_get l g) settled-captured ∙ entry-else a.captured (suc f) (suc g) None (λ q. d (omega (arith, q)))
+      ap (λ (l : List (Option ℕ)). slice_get l g) settled-captured
+      ∙ entry-else a.captured (suc f) (suc g) None (λ q. d (omega (arith, q)))
 
   none_some : {A : Type 0} (k : A) → Some k ≡ None → ⊥
   none_some k e = absurd (cc)
@@ -121,7 +122,8 @@ module _ (f n : ℕ) (now : FileStatus) (a b : FileRegister) (h : IsSettled f n 
       → k ≡ n → g ≡ f
   settled_only law g k e q =
       let w = law.held g k e in
-      let at_is = once-at a.numbers n w.0 h.numbers.at w.1 h.numbers.it (law.once n) w.2 h.numbers.found (w.3.number_is ∙ q) h.numbers.had.number_is in
+      let at_is =
+      once-at a.numbers n w.0 h.numbers.at w.1 h.numbers.it (law.once n) w.2 h.numbers.found (w.3.number_is ∙ q) h.numbers.had.number_is in
       some (sym w.3.family_is ∙ ap (λ (z : RegisteredFile). z.family) (some (sym w.2 ∙ ap (entry a.numbers) at_is ∙ h.numbers.found)) ∙ h.of)
 
   pub numbers-settled : NumbersStand a.numbers a.captured a.next → (now ≡ Pending → ⊥) → (now ≡ Grabbed → ⊥)

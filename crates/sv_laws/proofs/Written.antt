@@ -68,7 +68,8 @@ module _ (a b : Books) (k : Sound a) (f : ℕ) (w : Write) (h : IsWritten a b f 
   member-same : (l m : ℕ) (x : MemtableList) → entry a.lists l ≡ Some x → In m x.members → borne_by m K ≡ borne_by m J
   member-same l m x at i = borne-other m J w (λ q.
       let t = k.steady.listed l m x at i in
-      let of : t.it.family ≡ f = ap (λ (z : Memtable). z.family) (of_active m t.it q t.at) ∙ d.active_family ∙ of_f a k f h.s c h.is_open in
+      let of : t.it.family ≡ f =
+      ap (λ (z : Memtable). z.family) (of_active m t.it q t.at) ∙ d.active_family ∙ of_f a k f h.s c h.is_open in
       let below = t.before h.s c (subst (λ g. IsCurrent a.tops a.supers g h.s c) (sym of) h.is_open.current) in
       omega (arith, below, q, h.mem_is))
 
@@ -125,7 +126,8 @@ module _ (a b : Books) (k : Sound a) (f : ℕ) (w : Write) (h : IsWritten a b f 
       mine : w.mem ≡ m → BearsFrom K m it
       mine q =
           let s = of_active m it q at in
-          let fam : it.family ≡ w.family = ap (λ (x : Memtable). x.family) s ∙ d.active_family ∙ of_f a k f h.s c h.is_open ∙ sym h.family_is in
+          let fam : it.family ≡ w.family =
+          ap (λ (x : Memtable). x.family) s ∙ d.active_family ∙ of_f a k f h.s c h.is_open ∙ sym h.family_is in
           let first : it.first ≡ c.descriptor.base = ap (λ (x : Memtable). x.first) s ∙ sym d.base in
           let rows : borne_by m K ≡ borne_by m J ++ w ∷ [] =
           subst (λ i. borne_by i K ≡ borne_by i J ++ w ∷ []) q (borne-same J w) in
