@@ -58,7 +58,8 @@ pub rows-stand-any : (rows F : List Write) (a : ℕ) (w : Write) → rows ≡ ta
     → rows ≡ take (length rows) (drop a (F ++ w ∷ []))
 rows-stand-any [] F a w h = refl
 rows-stand-any (x ∷ rows) F a w h =
-    rows-stand (x ∷ rows) F a w h (omega (arith, ap (λ (l : List Write). length l) h, length-take (length (x ∷ rows)) (drop a F), length-drop a F))
+    rows-stand (x ∷ rows) F a w h
+    (omega (arith, ap (λ (l : List Write). length l) h, length-take (length (x ∷ rows)) (drop a F), length-drop a F))
 
 -- no write is of this family
 pub unowned : (J : List Write) (f : ℕ) → ((i : ℕ) (w : Write) → slice_get J i ≡ Some w → w.family < f)

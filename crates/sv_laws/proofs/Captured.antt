@@ -221,9 +221,13 @@ flush-begun a b k f file h =
     sym (join_reach d.version.files 0 d.middle d.files.joins) ∙ ap (λ (v : Version). reach_of v.files) version_is
     ∙ sym h.from_is in
     let joins : MembersJoin a.journal a.memtables c.descriptor.family file.from h.list.members file.to =
-    subst (λ (z : ℕ × (List ℕ × ℕ)). MembersJoin a.journal a.memtables c.descriptor.family z.0 z.1.0 z.1.1) (λ i. (from i, (ap (λ (l : MemtableList). l.members) list_is i, sym h.to_is i))) d.members in
-    captured a b k f file h.captured (omega (arith, k.steady.supers_of h.s c p.current.has, of_f a k f h.s c p)) (omega (arith, h.to_is, d.within, ap (λ j. length (of_family j a.journal)) (of_f a k f h.s c p))) (λ s x cur.
-    subst (λ (z : SuperVersion). IsAwaited a.journal a.memtables a.lists a.versions (a.metas ++ file ∷ []) a.files.next z.descriptor) (one-current a.tops a.supers f h.s s c x p.current cur) (record {
+    subst (λ (z : ℕ × (List ℕ × ℕ)). MembersJoin a.journal a.memtables c.descriptor.family z.0 z.1.0 z.1.1)
+    (λ i. (from i, (ap (λ (l : MemtableList). l.members) list_is i, sym h.to_is i))) d.members in
+    captured a b k f file h.captured (omega (arith, k.steady.supers_of h.s c p.current.has, of_f a k f h.s c p))
+    (omega (arith, h.to_is, d.within, ap (λ j. length (of_family j a.journal)) (of_f a k f h.s c p))) (λ s x cur.
+    subst
+    (λ (z : SuperVersion). IsAwaited a.journal a.memtables a.lists a.versions (a.metas ++ file ∷ []) a.files.next z.descriptor)
+    (one-current a.tops a.supers f h.s s c x p.current cur) (record {
       file = file;
       covered = in-right file a.metas (file ∷ []) (record { at = 0; is = refl });
       number_is = h.captured.number_is;
@@ -250,13 +254,24 @@ merge-planned a b k f file h =
     let d = says a k f h.s c p in
     let version_is : d.version ≡ h.version = some (sym d.version_at ∙ h.version_at) in
     let files =
-    subst (λ (v : Version). FilesStand a.files.numbers a.metas c.descriptor.family v.files d.middle) version_is d.files in
-    captured a b k f file h.captured (omega (arith, k.steady.supers_of h.s c p.current.has, of_f a k f h.s c p)) (omega (arith, h.to_is, join_reach h.version.files 0 d.middle files.joins, join-le a.journal a.memtables c.descriptor.family d.list.members d.middle c.descriptor.base d.members, d.within, ap (λ j. length (of_family j a.journal)) (of_f a k f h.s c p))) (λ s x cur.
-    subst (λ (z : SuperVersion). IsAwaited a.journal a.memtables a.lists a.versions (a.metas ++ file ∷ []) a.files.next z.descriptor) (one-current a.tops a.supers f h.s s c x p.current cur) (record {
+    subst (λ (v : Version). FilesStand a.files.numbers a.metas c.descriptor.family v.files d.middle) version_is
+    d.files in
+    captured a b k f file h.captured (omega (arith, k.steady.supers_of h.s c p.current.has, of_f a k f h.s c p))
+    (omega (arith, h.to_is, join_reach h.version.files 0 d.middle files.joins, join-le a.journal a.memtables c.descriptor.family d.list.members d.middle c.descriptor.base d.members, d.within, ap (λ j. length (of_family j a.journal)) (of_f a k f h.s c p)))
+    (λ s x cur.
+    subst
+    (λ (z : SuperVersion). IsAwaited a.journal a.memtables a.lists a.versions (a.metas ++ file ∷ []) a.files.next z.descriptor)
+    (one-current a.tops a.supers f h.s s c x p.current cur) (record {
       file = file;
       covered = in-right file a.metas (file ∷ []) (record { at = 0; is = refl });
       number_is = h.captured.number_is;
-      some = omega (arith, h.from_is, h.to_is, files-some h.version.files 0 d.middle h.some files.joins (λ i m e. (files.each i m e).some), join_reach h.version.files 0 d.middle files.joins);
+      some = omega (
+        arith,
+        h.from_is,
+        h.to_is,
+        files-some h.version.files 0 d.middle h.some files.joins (λ i m e. (files.each i m e).some),
+        join_reach h.version.files 0 d.middle files.joins,
+      );
       list = d.list;
       list_at = d.list_at;
       version = h.version;

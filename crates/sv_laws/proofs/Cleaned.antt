@@ -140,7 +140,9 @@ module _ (a b : Books) (k : Sound a) (s : ℕ) (x : SuperVersion) (h : IsCleaned
     rows = λ m it at. let t = goes-back KeepsMemtable a.memtables b.memtables gm h.memtables.long m it at in let w = law.rows m t.0 t.1 in
         record {
           within = omega (arith, w.within, t.2.first, ap (λ i. length (of_family i a.journal)) t.2.family);
-          rows = subst (λ (z : ℕ × ℕ). borne_by m a.journal ≡ take (length (borne_by m a.journal)) (drop z.0 (of_family z.1 a.journal))) (λ i. (sym t.2.first i, sym t.2.family i)) w.rows;
+          rows = subst
+              (λ (z : ℕ × ℕ). borne_by m a.journal ≡ take (length (borne_by m a.journal)) (drop z.0 (of_family z.1 a.journal)))
+              (λ i. (sym t.2.first i, sym t.2.family i)) w.rows;
           few = w.few;
         };
     tops = λ g i z t ze te cur. let o = law.tops g i z t ze te cur in record {
@@ -157,7 +159,8 @@ module _ (a b : Books) (k : Sound a) (s : ℕ) (x : SuperVersion) (h : IsCleaned
       ends = o.ends;
     };
     paired = law.paired;
-    numbers = numbers-ended (NamedFile b.versions) a.files.numbers N h.numbers a.files.captured a.files.next law.numbers;
+    numbers = numbers-ended (NamedFile b.versions) a.files.numbers N h.numbers a.files.captured a.files.next
+        law.numbers;
     metas = law.metas ∙ sym (files-captured_numbers (NamedFile b.versions) a.files.numbers N h.numbers);
     cuts = law.cuts;
     snapshots = snapshots-kept a e law.snapshots (record {
@@ -179,8 +182,14 @@ module _ (a b : Books) (k : Sound a) (s : ℕ) (x : SuperVersion) (h : IsCleaned
     limits = record {
       families = law.limits.families;
       supers = omega (arith, law.limits.supers, length-change a.supers s y);
-      live_supers = omega (arith, law.limits.live_supers, total-change (λ (w : SuperVersion). bit w.live) a.supers s x y h.at);
-      live_memtables = omega (arith, law.limits.live_memtables, total-le KeepsMemtable (λ (m : Memtable). bit m.live) (λ m n r. lives_le m.live n.live r.gone) a.memtables b.memtables h.memtables.long gm);
+      live_supers = omega
+          (arith, law.limits.live_supers, total-change (λ (w : SuperVersion). bit w.live) a.supers s x y h.at);
+      live_memtables = omega (
+        arith,
+        law.limits.live_memtables,
+        total-le KeepsMemtable (λ (m : Memtable). bit m.live) (λ m n r. lives_le m.live n.live r.gone) a.memtables
+            b.memtables h.memtables.long gm,
+      );
       captured = omega (arith, law.limits.captured, files-captures (NamedFile b.versions) a.files.numbers N h.numbers);
       writes = law.limits.writes;
       holds = law.limits.holds;
@@ -207,14 +216,16 @@ module _ (a b : Books) (k : Sound a) (s : ℕ) (x : SuperVersion) (h : IsCleaned
     lawful = lawful;
     steady = record {
       borne = λ i w at.
-          borne-on (length a.memtables) (length a.families) (length b.memtables) (length a.families) w (omega (arith, h.memtables.long)) (omega arith) (k.steady.borne i w at);
+          borne-on (length a.memtables) (length a.families) (length b.memtables) (length a.families) w
+          (omega (arith, h.memtables.long)) (omega arith) (k.steady.borne i w at);
       supers_of = λ n r at. ⊎_elim
           (λ q. omega (arith, k.steady.supers_of s x h.at, ap (λ (u : SuperVersion). u.descriptor.family) q.1))
           (λ q. k.steady.supers_of n r q.1)
           (entry_change a.supers s n y r at);
       listed = listed_law;
       awaited = λ g n i z ca cur.
-          awaited-on a.files.numbers N gn a.metas a.metas gx a.journal a.memtables b.memtables a.lists b.lists a.versions b.versions gm gl gv n z.descriptor (k.steady.awaited g n i z ca (current_back g i z cur));
+          awaited-on a.files.numbers N gn a.metas a.metas gx a.journal a.memtables b.memtables a.lists b.lists
+          a.versions b.versions gm gl gv n z.descriptor (k.steady.awaited g n i z ca (current_back g i z cur));
       covers = k.steady.covers;
       retired = k.steady.retired;
       busy = k.steady.busy;
@@ -230,7 +241,8 @@ module _ (a b : Books) (k : Sound a) (s : ℕ) (x : SuperVersion) (h : IsCleaned
   after : After a e
   after = record {
     journal = continues-itself a.journal;
-    supers = goes-change KeepsSuper a.supers s x y super-itself h.at (record { descriptor = refl; place = refl; gone = λ _. refl });
+    supers = goes-change KeepsSuper a.supers s x y super-itself h.at
+        (record { descriptor = refl; place = refl; gone = λ _. refl });
     memtables = gm;
     lists = gl;
     versions = gv;

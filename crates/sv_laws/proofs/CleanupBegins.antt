@@ -37,7 +37,8 @@ module _ (a : Books) (k : Sound a) (s : ℕ) (x : SuperVersion) (at : entry a.su
       → Frees (Has (UsesList x.descriptor.list) S) x.descriptor.list freed → EndsList a.lists freed L given
       → Ends KeepsList list_live (NamedList S) a.lists L
   lists-ended None L given f e =
-      ends-of KeepsList list_live (NamedList S) a.lists L (λ y z r. r.gone) (ap length e.0) (subst (GoesOn KeepsList a.lists) (sym e.0) (goes-same KeepsList a.lists list-itself)) (λ l. (
+      ends-of KeepsList list_live (NamedList S) a.lists L (λ y z r. r.gone) (ap length e.0)
+      (subst (GoesOn KeepsList a.lists) (sym e.0) (goes-same KeepsList a.lists list-itself)) (λ l. (
         λ w. ⊎_elim
             (λ o. o)
             (λ o. subst (λ i. Has (UsesList i) S) o.is f)
@@ -50,7 +51,8 @@ module _ (a : Books) (k : Sound a) (s : ℕ) (x : SuperVersion) (at : entry a.su
       let y : MemtableList = record z.it { live = false } in
       let d_at : entry a.lists d ≡ Some z.it = ap (entry a.lists) f.0 ∙ z.at in
       let K : List MemtableList = change a.lists d y in
-      subst (Ends KeepsList list_live (NamedList S) a.lists) (sym new.0) (ends-of KeepsList list_live (NamedList S) a.lists K (λ u v r. r.gone) (length-change a.lists d y) (goes-change KeepsList a.lists d z.it y list-itself d_at (record { members = refl; gone = λ _. refl })) (λ l. (
+      subst (Ends KeepsList list_live (NamedList S) a.lists) (sym new.0)
+      (ends-of KeepsList list_live (NamedList S) a.lists K (λ u v r. r.gone) (length-change a.lists d y) (goes-change KeepsList a.lists d z.it y list-itself d_at (record { members = refl; gone = λ _. refl })) (λ l. (
         λ w. ⊎_elim
             (λ q. not_live (sym (ap (λ (u : MemtableList). u.live) q.1) ∙ w.live))
             (λ q. ⊎_elim (λ o. o) (λ o. absurd (q.0 (sym o.is ∙ sym f.0))) (has-keep (UsesList l) a.supers s x (record x { live = false }) at ((k.lawful.lists l).0 (record { it = w.it; at = q.1; live = w.live }))))
@@ -127,7 +129,10 @@ module _ (a : Books) (k : Sound a) (s : ℕ) (x : SuperVersion) (at : entry a.su
       → EndsVersion a.versions gone V given
       → Ends KeepsVersion version_live (NamedVersion S a.families a.tops) a.versions V
   versions-ended None V given f e =
-      ends-of KeepsVersion version_live (NamedVersion S a.families a.tops) a.versions V (λ y z r. r.gone) (ap length e.0) (subst (GoesOn KeepsVersion a.versions) (sym e.0) (goes-same KeepsVersion a.versions version-itself)) (λ v. (
+      ends-of KeepsVersion version_live (NamedVersion S a.families a.tops) a.versions V (λ y z r. r.gone)
+      (ap length e.0)
+      (subst (GoesOn KeepsVersion a.versions) (sym e.0) (goes-same KeepsVersion a.versions version-itself))
+      (λ v. (
         λ w. ⊎_elim
             (λ o. ⊎_elim (λ u. inl u) (λ u. subst (NamedVersion S a.families a.tops) u.is f) (has-keep (UsesVersion v) a.supers s x (record x { live = false }) at o))
             (λ o. inr o)
@@ -145,7 +150,8 @@ module _ (a : Books) (k : Sound a) (s : ℕ) (x : SuperVersion) (at : entry a.su
       let new = e z.it d_at in
       let y : Version = record z.it { live = false } in
       let K : List Version = change a.versions d y in
-      subst (Ends KeepsVersion version_live (NamedVersion S a.families a.tops) a.versions) (sym new.0) (ends-of KeepsVersion version_live (NamedVersion S a.families a.tops) a.versions K (λ u v r. r.gone) (length-change a.versions d y) (goes-change KeepsVersion a.versions d z.it y version-itself d_at (record { files = refl; gone = λ _. refl })) (λ v. (
+      subst (Ends KeepsVersion version_live (NamedVersion S a.families a.tops) a.versions) (sym new.0)
+      (ends-of KeepsVersion version_live (NamedVersion S a.families a.tops) a.versions K (λ u v r. r.gone) (length-change a.versions d y) (goes-change KeepsVersion a.versions d z.it y version-itself d_at (record { files = refl; gone = λ _. refl })) (λ v. (
         λ w. ⊎_elim
             (λ q. not_live (sym (ap (λ (u : Version). u.live) q.1) ∙ w.live))
             (λ q. ⊎_elim

@@ -81,7 +81,8 @@ module _ (a b : Books) (k : Sound a) (f : ℕ) (file : FileMeta) where
           files = record {
             joins = (merge.from_is, ends);
             each = λ i m q.
-                subst (IsFileOf b.files.numbers a.metas c.descriptor.family) (sym (get_one file i m q).1) (file-of a b k f h.s c p file h.covered h.settled);
+                subst (IsFileOf b.files.numbers a.metas c.descriptor.family) (sym (get_one file i m q).1)
+                (file-of a b k f h.s c p file h.covered h.settled);
             above = λ i m q low. absurd (omega (arith, (get_one file i m q).0));
           };
           members = d.members;
@@ -107,6 +108,7 @@ module _ (a b : Books) (k : Sound a) (f : ℕ) (file : FileMeta) where
           arith,
           ap reach_of (last-files a k f h.s c p t q d.version d.version_at),
           merge.to_is,
-          ap reach_of (files-at (a.versions ++ v ∷ []) (length a.versions + 1) v (entry-new a.versions v (length a.versions + 1) refl)),
+          ap reach_of
+              (files-at (a.versions ++ v ∷ []) (length a.versions + 1) v (entry-new a.versions v (length a.versions + 1) refl)),
         );
       }))

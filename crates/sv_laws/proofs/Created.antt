@@ -31,9 +31,19 @@ created a b k r h =
     let none : of_family f a.journal ≡ [] = unowned a.journal f (λ i w e. (k.steady.borne i w e).family_made) in
     let zero_is : 0 ≡ length (of_family f a.journal) = sym (ap (λ (l : List Write). length l) none) in
     let fresh : borne_by (length a.memtables + 1) a.journal ≡ [] =
-    unborne a.journal (length a.memtables + 1) (λ i w e. omega (arith, mem-within (length a.memtables) (length a.families) w (k.steady.borne i w e))) in
+    unborne a.journal (length a.memtables + 1)
+    (λ i w e. omega (arith, mem-within (length a.memtables) (length a.families) w (k.steady.borne i w e))) in
     let x : SuperVersion =
-    live_super (record { family = f; active = length a.memtables + 1; list = length a.lists + 1; version = length a.versions + 1; base = 0; options = r.options }) h.place in
+    live_super
+    (record {
+      family = f;
+      active = length a.memtables + 1;
+      list = length a.lists + 1;
+      version = length a.versions + 1;
+      base = 0;
+      options = r.options;
+    })
+    h.place in
     let y : Memtable = record { family = f; first = 0; cell = h.cell; live = true } in
     let z : MemtableList = record { members = []; live = true } in
     let v : Version = record { files = []; live = true } in
@@ -46,7 +56,9 @@ created a b k r h =
       tops = a.tops ++ next_top a (length a.versions + 1) ∷ [];
     } in
     let tops =
-    subst (λ g. IsPlaced a.tops (a.tops ++ next_top a (length a.versions + 1) ∷ []) g (next_top a (length a.versions + 1))) k.lawful.paired (placed-push a.tops (next_top a (length a.versions + 1))) in
+    subst
+    (λ g. IsPlaced a.tops (a.tops ++ next_top a (length a.versions + 1) ∷ []) g (next_top a (length a.versions + 1)))
+    k.lawful.paired (placed-push a.tops (next_top a (length a.versions + 1))) in
     let no_top : (t : Top) → slice_get a.tops f ≡ Some t → ⊥ =
     λ t q. omega (arith, get_within a.tops f t q, k.lawful.paired) in
     subst (λ (u : Books). Sound u × After a u) (sym h.is) (installed a e k f r x (record {
@@ -101,7 +113,12 @@ created a b k r h =
           absurd (in-none m (subst (λ (z : Version). In m z.files) same w.has));
       families = placed-push a.families r;
       tops = tops;
-      paired = omega (arith, k.lawful.paired, length-append a.tops (next_top a (length a.versions + 1) ∷ []), length-append a.families (r ∷ []));
+      paired = omega (
+        arith,
+        k.lawful.paired,
+        length-append a.tops (next_top a (length a.versions + 1) ∷ []),
+        length-append a.families (r ∷ []),
+      );
       more = omega (arith, length-append a.families (r ∷ []));
       few_families = omega (arith, h.few, length-append a.families (r ∷ []));
       stands = h.stands;

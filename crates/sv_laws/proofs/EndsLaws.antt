@@ -69,7 +69,8 @@ module _ (Named : ℕ → Type 0) (N K : List RegisteredFile) (h : EndsFiles Nam
 
   pub files-captures : captures K ≡ captures N
   files-captures =
-      total-same (TurnsFile Named) (λ x. bit (is_some x.family)) (λ x y t. ap (λ f. bit (is_some f)) (family_same x y t)) N K h.long h.goes
+      total-same (TurnsFile Named) (λ x. bit (is_some x.family))
+      (λ x y t. ap (λ f. bit (is_some f)) (family_same x y t)) N K h.long h.goes
 
   pub files-captured_numbers : captured_numbers K ≡ captured_numbers N
   files-captured_numbers =
@@ -103,7 +104,12 @@ module _ (Named : ℕ → Type 0) (N K : List RegisteredFile) (h : EndsFiles Nam
   pub numbers-ended : (C : List (Option ℕ)) (next : ℕ) → NumbersStand N C next → NumbersStand K C next
   numbers-ended C next law = record {
     once = λ n.
-        omega (arith, law.once n, total-same (TurnsFile Named) (λ x. same n x.number) (λ x y t. ap (same n) (number_same x y t)) N K h.long h.goes);
+        omega (
+          arith,
+          law.once n,
+          total-same (TurnsFile Named) (λ x. same n x.number) (λ x y t. ap (same n) (number_same x y t)) N K h.long
+              h.goes,
+        );
     below = λ i y e. let t = goes-back (TurnsFile Named) N K h.goes h.long i y e in omega (arith, law.below i t.0 t.1, number_same t.0 y t.2);
     pending = λ i y e p. let t = goes-back (TurnsFile Named) N K h.goes h.long i y e in let u = not-turned t.0 y t.2 (inl p) in
         let w = law.pending i t.0 t.1 (ap (λ (z : RegisteredFile). z.status) (sym u.0) ∙ p) in
@@ -124,7 +130,8 @@ module _ (Named : ℕ → Type 0) (N K : List RegisteredFile) (h : EndsFiles Nam
     positive = λ i y e p. let t = goes-back (TurnsFile Named) N K h.goes h.long i y e in
         omega (arith, law.positive i t.0 t.1 (ap is_some (sym (family_same t.0 y t.2)) ∙ p), number_same t.0 y t.2);
     grabbed = λ i y e p f n c. let t = goes-back (TurnsFile Named) N K h.goes h.long i y e in let u = not-turned t.0 y t.2 (inr (inr p)) in
-        omega (arith, law.grabbed i t.0 t.1 (ap (λ (z : RegisteredFile). z.status) (sym u.0) ∙ p) f n c, number_same t.0 y t.2);
+        omega
+        (arith, law.grabbed i t.0 t.1 (ap (λ (z : RegisteredFile). z.status) (sym u.0) ∙ p) f n c, number_same t.0 y t.2);
     least = law.least;
     most = law.most;
   }

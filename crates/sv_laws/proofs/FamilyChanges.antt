@@ -228,7 +228,8 @@ module _ (a b : Books) (k : Sound a) (f : ℕ) (o y : Family) (t u : Top) (h : C
     };
     steady = record {
       borne = λ i w at.
-          borne-on (length a.memtables) (length a.families) (length a.memtables) (length G) w (omega arith) (omega (arith, length-set a.families f y)) (k.steady.borne i w at);
+          borne-on (length a.memtables) (length a.families) (length a.memtables) (length G) w (omega arith)
+          (omega (arith, length-set a.families f y)) (k.steady.borne i w at);
       supers_of = λ n x at. omega (arith, k.steady.supers_of n x at, length-set a.families f y);
       listed = λ l m z at i. let j = k.steady.listed l m z at i in record {
         it = j.it;
@@ -264,16 +265,20 @@ module _ (a b : Books) (k : Sound a) (f : ℕ) (o y : Family) (t u : Top) (h : C
     numbers = goes-same KeepsNumber a.files.numbers number-itself;
     metas = continues-itself a.metas;
     next = omega arith;
-    families = placed-goes a.families G f y pf KeepsFamily family-itself (λ z ze. let q : o ≡ z = some (sym h.at ∙ ze) in record {
-      name = h.name_is ∙ ap (λ (j : Family). j.name) q;
-      dropped = λ d. h.dropped (ap (λ (j : Family). j.dropped) q ∙ d);
-    });
+    families = placed-goes a.families G f y pf KeepsFamily family-itself
+        (λ z ze. let q : o ≡ z = some (sym h.at ∙ ze) in record {
+          name = h.name_is ∙ ap (λ (j : Family). j.name) q;
+          dropped = λ d. h.dropped (ap (λ (j : Family). j.dropped) q ∙ d);
+        });
     tops = λ g w we. dite (ℕ_discrete g f)
         (λ q. let t_is : t ≡ w = some (sym h.on ∙ ap (slice_get a.tops) (sym q) ∙ we) in (
           u,
           ap (slice_get T) q ∙ pt.here,
           record {
-            reach = omega (arith, ap (λ j. reach_of (files_of a.versions j)) (ap (λ (j : Top). j.last) (sym t_is) ∙ sym h.last_is));
+            reach = omega (
+              arith,
+              ap (λ j. reach_of (files_of a.versions j)) (ap (λ (j : Top). j.last) (sym t_is) ∙ sym h.last_is),
+            );
             ended = λ _ none. ⊎_elim (λ r. r ∙ ap (λ (j : Top). j.current) t_is ∙ none) (λ r. r) h.current;
           },
         ))

@@ -45,9 +45,11 @@ module _ (a b : Books) (k : Sound a) (h : ChangesFiles a b) where
       versions = law.versions;
       files = λ n. (λ w. (law.files n).0 ((h.live n).1 w), λ w. (h.live n).0 ((law.files n).1 w));
       descriptors = λ i r at live.
-          describes-on a.files.numbers b.files.numbers h.goes a.metas b.metas gx a.journal a.memtables a.memtables a.lists a.lists a.versions a.versions gm gl gv r.descriptor (law.descriptors i r at live);
+          describes-on a.files.numbers b.files.numbers h.goes a.metas b.metas gx a.journal a.memtables a.memtables
+          a.lists a.lists a.versions a.versions gm gl gv r.descriptor (law.descriptors i r at live);
       lasts = λ g t te.
-          last-on a.files.numbers b.files.numbers h.goes a.metas b.metas gx a.journal a.versions a.versions gv g t.last (law.lasts g t te);
+          last-on a.files.numbers b.files.numbers h.goes a.metas b.metas gx a.journal a.versions a.versions gv g
+          t.last (law.lasts g t te);
       rows = law.rows;
       tops = law.tops;
       paired = law.paired;
@@ -116,5 +118,6 @@ pub awaited-metas : (a : Books) (Y : List FileMeta) → ((m : FileMeta) → In m
     → (n : ℕ) (x : SuperVersion) → IsAwaited a.journal a.memtables a.lists a.versions a.metas n x.descriptor
     → IsAwaited a.journal a.memtables a.lists a.versions Y n x.descriptor
 awaited-metas a Y gx n x w =
-    awaited-on a.files.numbers a.files.numbers (goes-same KeepsNumber a.files.numbers number-itself) a.metas Y gx a.journal a.memtables a.memtables a.lists a.lists a.versions a.versions
+    awaited-on a.files.numbers a.files.numbers (goes-same KeepsNumber a.files.numbers number-itself) a.metas Y gx
+    a.journal a.memtables a.memtables a.lists a.lists a.versions a.versions
     (goes-same KeepsMemtable a.memtables memtable-itself) (goes-same KeepsList a.lists list-itself) (goes-same KeepsVersion a.versions version-itself) n x.descriptor w

@@ -40,7 +40,8 @@ parted-join J M f [] back (m ∷ low) high from to base h j e l u =
     let t : MembersJoin J M f from (m ∷ (low ++ high)) base = subst (λ ms. MembersJoin J M f from ms base) e j in
     absurd (omega (arith, l 0 m refl t.0.it t.0.at, t.0.first_is, h))
 parted-join J M f (m ∷ front) back [] high from to base h j e l u =
-    absurd (omega (arith, u 0 m (ap (λ ms. slice_get ms 0) (sym e)) h.0.it h.0.at, h.0.first_is, h.0.some, join-le J M f front (from + length (borne_by m J)) to h.1))
+    absurd
+    (omega (arith, u 0 m (ap (λ ms. slice_get ms 0) (sym e)) h.0.it h.0.at, h.0.first_is, h.0.some, join-le J M f front (from + length (borne_by m J)) to h.1))
 parted-join J M f (m ∷ front) back (n ∷ low) high from to base h j e l u =
     let rest : front ++ back ≡ low ++ high = cc in
     parted-join J M f front back low high (from + length (borne_by m J)) to base h.1 j.1 rest (λ i x q. l (suc i) x q) u
@@ -75,10 +76,13 @@ module _ (a b : Books) (k : Sound a) (f : ℕ) (file : FileMeta) where
       let reach : reach_of h.version.files ≡ d.middle = join_reach h.version.files 0 d.middle old.joins in
       let begins : file.from ≡ d.middle = flush.from_is ∙ reach in
       let members : MembersJoin a.journal a.memtables c.descriptor.family file.from (flush.front ++ flush.back) c.descriptor.base =
-      subst (λ ms. MembersJoin a.journal a.memtables c.descriptor.family file.from ms c.descriptor.base) (ap (λ (l : MemtableList). l.members) (some (sym d.list_at ∙ h.list_at)) ∙ flush.parts)
+      subst (λ ms. MembersJoin a.journal a.memtables c.descriptor.family file.from ms c.descriptor.base)
+      (ap (λ (l : MemtableList). l.members) (some (sym d.list_at ∙ h.list_at)) ∙ flush.parts)
       (subst (λ i. MembersJoin a.journal a.memtables c.descriptor.family i d.list.members c.descriptor.base) (sym begins) d.members) in
       let left =
-      parted-join a.journal a.memtables c.descriptor.family flush.front flush.back h.parted.front h.back file.from file.to c.descriptor.base flush.joins members (sym flush.parts ∙ h.parted.parts) h.parted.low h.parted.high in
+      parted-join a.journal a.memtables c.descriptor.family flush.front flush.back h.parted.front h.back file.from
+      file.to c.descriptor.base flush.joins members (sym flush.parts ∙ h.parted.parts) h.parted.low
+      h.parted.high in
       let joins = files-join-push h.version.files file 0 d.middle old.joins begins in
       subst (λ (u : Books). Sound u × After a u) (sym h.is) (installed a e k f p.family x (record {
         rest = refl;
@@ -93,7 +97,8 @@ module _ (a b : Books) (k : Sound a) (f : ℕ) (file : FileMeta) where
             is_list = refl;
             live = refl;
             members = λ m i.
-                member a k f h.s c p m h.list h.list_at (subst (In m) (sym h.parted.parts) (in-right m h.parted.front h.back i));
+                member a k f h.s c p m h.list h.list_at
+                (subst (In m) (sym h.parted.parts) (in-right m h.parted.front h.back i));
           },
         );
         versions = inr (
@@ -131,7 +136,9 @@ module _ (a b : Books) (k : Sound a) (f : ℕ) (file : FileMeta) where
           middle = file.to;
           files = record {
             joins = joins;
-            each = every_push (IsFileOf b.files.numbers a.metas c.descriptor.family) h.version.files file (λ i m q. file-on a.files.numbers b.files.numbers g a.metas a.metas (λ _ j. j) c.descriptor.family m (old.each i m q)) (file-of a b k f h.s c p file h.covered h.settled);
+            each = every_push (IsFileOf b.files.numbers a.metas c.descriptor.family) h.version.files file
+                (λ i m q. file-on a.files.numbers b.files.numbers g a.metas a.metas (λ _ j. j) c.descriptor.family m (old.each i m q))
+                (file-of a b k f h.s c p file h.covered h.settled);
             above = above-push h.version.files file old.above h.kind;
           };
           members = left;
@@ -166,7 +173,8 @@ module _ (a b : Books) (k : Sound a) (f : ℕ) (file : FileMeta) where
           ap reach_of (last-files a k f h.s c p t q h.version h.version_at),
           flush.from_is,
           is-some a b k f h.s c p file h.covered h.settled,
-          ap reach_of (files-at (a.versions ++ v ∷ []) (length a.versions + 1) v (entry-new a.versions v (length a.versions + 1) refl)),
+          ap reach_of
+              (files-at (a.versions ++ v ∷ []) (length a.versions + 1) v (entry-new a.versions v (length a.versions + 1) refl)),
           join_reach (h.version.files ++ file ∷ []) 0 file.to joins,
         );
       }))

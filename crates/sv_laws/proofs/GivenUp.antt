@@ -31,7 +31,8 @@ given-up a b k f n h =
     let s = h.settled in
     let e : Books = record a { files = b.files } in
     subst (λ (z : Books). Sound z × After a z) (sym h.is) (files-changed a e k (record {
-      numbers = numbers-settled f n Obsolete a.files b.files s k.lawful.numbers (λ q. obsolete_pending q) (λ q. obsolete_grabbed q);
+      numbers = numbers-settled f n Obsolete a.files b.files s k.lawful.numbers (λ q. obsolete_pending q)
+          (λ q. obsolete_grabbed q);
       goes = marked-goes n Pending Obsolete a.files.numbers b.files.numbers s.numbers (λ q. pending_gone q);
       metas = continues-itself a.metas;
       metas_are = k.lawful.metas
@@ -49,7 +50,11 @@ given-up a b k f n h =
             (λ o. live_obsolete o.1)
             (marked_is n Pending Obsolete a.files.numbers b.files.numbers s.numbers m Live w),
       );
-      few = omega (arith, k.lawful.limits.captured, marked-captures n Pending Obsolete a.files.numbers b.files.numbers s.numbers);
+      few = omega (
+        arith,
+        k.lawful.limits.captured,
+        marked-captures n Pending Obsolete a.files.numbers b.files.numbers s.numbers,
+      );
       holds = subst (Every (λ i. i ≤ 255)) (ap (λ (F : FileRegister). F.holds) (sym s.rest)) k.lawful.limits.holds;
       lanes = ap (λ (F : FileRegister). length F.holds) s.rest ∙ k.steady.holds;
       jobs = omega (arith, k.lawful.limits.jobs, ap (λ (F : FileRegister). F.jobs) s.rest);

@@ -22,7 +22,8 @@ set-self (y ∷ l) (suc f) x e = ap (λ z. y ∷ z) (set-self l f x e)
 -- a family with a handle is not retired
 pub not-retired : (y : Family) (lane : ℕ) → slice_get y.handles lane ≡ Some true → is_retired y ≡ false
 not-retired y lane e =
-    by y.dropped (total bit y.handles == 0) (ne_eqb (total bit y.handles) 0 (λ q. omega (arith, total_at bit y.handles lane true e, q)))
+    by y.dropped (total bit y.handles == 0)
+    (ne_eqb (total bit y.handles) 0 (λ q. omega (arith, total_at bit y.handles lane true e, q)))
   where
     by : (b c : Bool) → c ≡ false → (b && c) ≡ false
     by true c h = h

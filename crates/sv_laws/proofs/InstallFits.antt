@@ -93,7 +93,12 @@ module _ (a b : Books) (k : Sound a) (f : ℕ) (r : Family) (x : SuperVersion) (
         at = t.version_at;
         to = t.middle;
         files = subst (λ i. FilesStand b.files.numbers a.metas i t.version.files t.middle) h.family_is t.files;
-        within = omega (arith, join-le a.journal b.memtables d.family t.list.members t.middle d.base t.members, t.within, ap (λ i. length (of_family i a.journal)) h.family_is);
+        within = omega (
+          arith,
+          join-le a.journal b.memtables d.family t.list.members t.middle d.base t.members,
+          t.within,
+          ap (λ i. length (of_family i a.journal)) h.family_is,
+        );
       }
 
   pub lasts_law : (g : ℕ) (t : Top) → slice_get b.tops g ≡ Some t
@@ -105,7 +110,8 @@ module _ (a b : Books) (k : Sound a) (f : ℕ) (r : Family) (x : SuperVersion) (
 
   fresh : (m : ℕ) → m ≡ length a.memtables + 1 → borne_by m a.journal ≡ []
   fresh m q =
-      unborne a.journal m (λ i w e. omega (arith, mem-within (length a.memtables) (length a.families) w (k.steady.borne i w e), q))
+      unborne a.journal m
+      (λ i w e. omega (arith, mem-within (length a.memtables) (length a.families) w (k.steady.borne i w e), q))
 
   pub rows_law : (m : ℕ) (y : Memtable) → entry b.memtables m ≡ Some y → BearsFrom a.journal m y
   rows_law m y e = ⊎_elim

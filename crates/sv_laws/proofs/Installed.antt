@@ -176,8 +176,10 @@ module _ (a b : Books) (k : Sound a) (f : ℕ) (r : Family) (x : SuperVersion) (
     limits = record {
       families = h.few_families;
       supers = omega (arith, h.room.few, length-append a.supers (x ∷ []));
-      live_supers = omega (arith, h.room.few_live, total-push (λ (s : SuperVersion). bit s.live) a.supers x, bit_le x.live);
-      live_memtables = grown-total PM a.memtables b.memtables h.memtables (λ (m : Memtable). bit m.live) 64 (λ m. bit_le m.live) law.limits.live_memtables (λ n y p. p.room.few);
+      live_supers = omega
+          (arith, h.room.few_live, total-push (λ (s : SuperVersion). bit s.live) a.supers x, bit_le x.live);
+      live_memtables = grown-total PM a.memtables b.memtables h.memtables (λ (m : Memtable). bit m.live) 64
+          (λ m. bit_le m.live) law.limits.live_memtables (λ n y p. p.room.few);
       captured = omega (arith, law.limits.captured, captures_same);
       writes = law.limits.writes;
       holds = subst (Every (λ i. i ≤ 255)) (sym holds_same) law.limits.holds;
@@ -231,7 +233,8 @@ module _ (a b : Books) (k : Sound a) (f : ℕ) (r : Family) (x : SuperVersion) (
       let t = h.describes in
       let z_is : z ≡ t.list = some (sym e ∙ ap (entry b.lists) o.1.is_list ∙ t.list_at) in
       let w =
-      join_in a.journal b.memtables d.family t.list.members t.middle d.base m t.members (subst (λ (u : MemtableList). In m u.members) z_is i) in
+      join_in a.journal b.memtables d.family t.list.members t.middle d.base m t.members
+      (subst (λ (u : MemtableList). In m u.members) z_is i) in
       record {
         it = w.0;
         at = w.1;
@@ -252,7 +255,8 @@ module _ (a b : Books) (k : Sound a) (f : ℕ) (r : Family) (x : SuperVersion) (
   steady : Steady c
   steady = record {
     borne = λ i w e.
-        borne-on (length a.memtables) (length a.families) (length b.memtables) (length b.families) w (grown-longer PM a.memtables b.memtables h.memtables) h.more (k.steady.borne i w e);
+        borne-on (length a.memtables) (length a.families) (length b.memtables) (length b.families) w
+        (grown-longer PM a.memtables b.memtables h.memtables) h.more (k.steady.borne i w e);
     supers_of = λ n s e. ⊎_elim
         (λ o. omega (arith, k.steady.supers_of n s o, h.more))
         (λ o. omega (arith, get_within b.families f r h.families.here, ap (λ (w : SuperVersion). w.descriptor.family) o.1, h.family_is))
@@ -277,9 +281,20 @@ module _ (a b : Books) (k : Sound a) (f : ℕ) (r : Family) (x : SuperVersion) (
         (λ q. ap (λ (u : Family). length u.handles) q.1 ∙ h.handles)
         (λ q. k.steady.handles g y q.1)
         (fam g y e);
-    memtables_made = omega (arith, k.steady.memtables_made, grown-shorter PM a.memtables b.memtables h.memtables, length-append a.supers (x ∷ []));
-    lists_made = omega (arith, k.steady.lists_made, grown-shorter PL a.lists b.lists h.lists, length-append a.supers (x ∷ []));
-    versions_made = omega (arith, k.steady.versions_made, grown-shorter PV a.versions b.versions h.versions, length-append a.supers (x ∷ []));
+    memtables_made = omega (
+      arith,
+      k.steady.memtables_made,
+      grown-shorter PM a.memtables b.memtables h.memtables,
+      length-append a.supers (x ∷ []),
+    );
+    lists_made = omega
+        (arith, k.steady.lists_made, grown-shorter PL a.lists b.lists h.lists, length-append a.supers (x ∷ []));
+    versions_made = omega (
+      arith,
+      k.steady.versions_made,
+      grown-shorter PV a.versions b.versions h.versions,
+      length-append a.supers (x ∷ []),
+    );
   }
 
   after : After a c
@@ -292,10 +307,11 @@ module _ (a b : Books) (k : Sound a) (f : ℕ) (r : Family) (x : SuperVersion) (
     numbers = gn;
     metas = continues-itself a.metas;
     next = omega (arith, next_same);
-    families = placed-goes a.families b.families f r h.families KeepsFamily family-itself (λ y e. let t = h.was y e in record {
-      name = t.0;
-      dropped = λ dr. absurd (let q : false ≡ true = sym t.1 ∙ dr in cc);
-    });
+    families = placed-goes a.families b.families f r h.families KeepsFamily family-itself
+        (λ y e. let t = h.was y e in record {
+          name = t.0;
+          dropped = λ dr. absurd (let q : false ≡ true = sym t.1 ∙ dr in cc);
+        });
     tops = λ g t e. dite (ℕ_discrete g f)
         (λ q. (
           top,

@@ -81,7 +81,8 @@ captured_numbers-goes R keeps (x ∷ N) (y ∷ K) q g =
 pub captured_numbers-change : (l : List RegisteredFile) (n : ℕ) (x y : RegisteredFile) → entry l n ≡ Some x
     → y.number ≡ x.number → y.family ≡ x.family → captured_numbers (change l n y) ≡ captured_numbers l
 captured_numbers-change l n x y at number family =
-    captured_numbers-goes (λ u v. (v.number ≡ u.number) × (v.family ≡ u.family)) (λ u v r. r) l (change l n y) (length-change l n y)
+    captured_numbers-goes (λ u v. (v.number ≡ u.number) × (v.family ≡ u.family)) (λ u v r. r) l (change l n y)
+    (length-change l n y)
     (goes-change (λ u v. (v.number ≡ u.number) × (v.family ≡ u.family)) l n x y (λ z. (refl, refl)) at (number, family))
 
 pub captured_numbers-push : (l : List RegisteredFile) (x : RegisteredFile)
@@ -117,7 +118,8 @@ captured-in (y ∷ l) zero x e p =
     let q : y ≡ x = some e in
     record {
       at = 0;
-      is = ap (λ k. slice_get k 0) (captured-cons y l ∙ ap (λ b. cond b (y.number ∷ captured_numbers l) (captured_numbers l)) (ap (λ (z : RegisteredFile). is_some z.family) q ∙ p))
+      is = ap (λ k. slice_get k 0)
+          (captured-cons y l ∙ ap (λ b. cond b (y.number ∷ captured_numbers l) (captured_numbers l)) (ap (λ (z : RegisteredFile). is_some z.family) q ∙ p))
           ∙ ap (λ (z : RegisteredFile). Some z.number) q;
     }
 captured-in (y ∷ l) (suc i) x e p =
@@ -157,7 +159,8 @@ module _ (numbers : List RegisteredFile) (captured : List (Option ℕ)) (next : 
   drawn m i =
       let more = times_in m.number (captured_numbers numbers) (record { at = i.at; is = at m i }) in
       let t =
-      at_total (λ (x : RegisteredFile). same m.number x.number) numbers (omega (arith, more, captured-le m.number numbers)) in
+      at_total (λ (x : RegisteredFile). same m.number x.number) numbers
+      (omega (arith, more, captured-le m.number numbers)) in
       omega (arith, law.below (suc t.0) t.1 t.2, same_is m.number t.1.number t.3)
 
   -- a captured number has one

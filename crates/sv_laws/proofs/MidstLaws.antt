@@ -127,7 +127,8 @@ module _ (Named : ℕ → Type 0) (old now : List Memtable) (m : ℕ) (left cell
       λ w. dite (ℕ_discrete w.id m)
           (λ q. in-right c cells (it.cell ∷ []) (record {
             at = 0;
-            is = ap Some (was.2.cell ∙ ap (λ (z : Memtable). z.cell) (some (sym was.1 ∙ ap (entry old) (sym q) ∙ w.at)) ∙ w.is);
+            is = ap Some
+                (was.2.cell ∙ ap (λ (z : Memtable). z.cell) (some (sym was.1 ∙ ap (entry old) (sym q) ∙ w.at)) ∙ w.is);
           }))
           (λ q. in-left c cells (it.cell ∷ []) ((h.went.exact c).1 (record {
             id = w.id;
@@ -158,7 +159,14 @@ module _ (Named : ℕ → Type 0) (old now : List Memtable) (m : ℕ) (left cell
     pub midst-ended : Midst Named old (change now m (record it { live = false })) left (cells ++ it.cell ∷ [])
     midst-ended = record {
       long = length-change now m dead ∙ h.long;
-      goes = goes-on KeepsMemtable old now then (λ x y z p q. record { family = q.family ∙ p.family; first = q.first ∙ p.first; cell = q.cell ∙ p.cell; gone = λ e. q.gone (p.gone e) }) h.goes
+      goes = goes-on KeepsMemtable old now then
+          (λ x y z p q. record {
+            family = q.family ∙ p.family;
+            first = q.first ∙ p.first;
+            cell = q.cell ∙ p.cell;
+            gone = λ e. q.gone (p.gone e);
+          })
+          h.goes
           (goes-change KeepsMemtable now m it dead memtable-itself at (record {
             family = refl;
             first = refl;
@@ -174,7 +182,8 @@ module _ (Named : ℕ → Type 0) (old now : List Memtable) (m : ℕ) (left cell
 pub midst-whole : (Named : ℕ → Type 0) (old now : List Memtable) (cells : List ℕ) → Midst Named old now [] cells
     → Ends KeepsMemtable memtable_live Named old now
 midst-whole Named old now cells h =
-    ends-of KeepsMemtable memtable_live Named old now (λ x y r. r.gone) h.long h.goes (λ n. (λ w. ⊎_elim (λ q. q) (λ q. absurd (in-none n q)) (h.live n w), h.named n))
+    ends-of KeepsMemtable memtable_live Named old now (λ x y r. r.gone) h.long h.goes
+    (λ n. (λ w. ⊎_elim (λ q. q) (λ q. absurd (in-none n q)) (h.live n w), h.named n))
 
 -- ---- one file looked at
 
@@ -192,7 +201,8 @@ midst-file Named old now then n left once h free mark = record {
         record mark.it { status = Obsolete },
         ap (entry then) q ∙ ap (λ l. entry l mark.at) mark.marked
             ∙ entry-same now mark.at mark.it (record mark.it { status = Obsolete }) mark.found,
-        inr (ap (λ (z : RegisteredFile). record z { status = Obsolete }) it_is, ap (λ (z : RegisteredFile). z.status) (sym it_is) ∙ mark.had.status_is, λ p. free (subst Named (ap (λ (z : RegisteredFile). z.number) (sym it_is) ∙ mark.had.number_is) p)),
+        inr
+            (ap (λ (z : RegisteredFile). record z { status = Obsolete }) it_is, ap (λ (z : RegisteredFile). z.status) (sym it_is) ∙ mark.had.status_is, λ p. free (subst Named (ap (λ (z : RegisteredFile). z.number) (sym it_is) ∙ mark.had.number_is) p)),
       ))
       (λ q. (t.0, ap (λ l. entry l i) mark.marked ∙ entry-else now mark.at i (record mark.it { status = Obsolete }) q ∙ t.1, t.2));
   live = λ k w. ⊎_elim

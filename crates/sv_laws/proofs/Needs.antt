@@ -79,7 +79,8 @@ module _ (a : Books) (k : Sound a) where
   unnamed n w h =
       let l = (k.lawful.files n).1 h in
       let q = once-at a.files.numbers n w.0 l.0 w.1 l.1 (k.lawful.numbers.once n) w.2 l.2 w.3.number_is l.3.number_is in
-      clash (sym w.3.status_is ∙ ap (λ (z : RegisteredFile). z.status) (some (sym w.2 ∙ ap (entry a.files.numbers) q ∙ l.2)) ∙ l.3.status_is)
+      clash
+      (sym w.3.status_is ∙ ap (λ (z : RegisteredFile). z.status) (some (sym w.2 ∙ ap (entry a.files.numbers) q ∙ l.2)) ∙ l.3.status_is)
     where
       clash : Pending ≡ Live → ⊥
       clash e = absurd (cc)
@@ -93,11 +94,13 @@ module _ (a : Books) (k : Sound a) where
         let J = a.journal in
         let g = c.descriptor.family in
         let old : MembersJoin J a.memtables g d.middle z.members c.descriptor.base =
-        subst (λ (u : MemtableList). MembersJoin J a.memtables g d.middle u.members c.descriptor.base) (some (sym d.list_at ∙ e)) d.members in
+        subst (λ (u : MemtableList). MembersJoin J a.memtables g d.middle u.members c.descriptor.base)
+        (some (sym d.list_at ∙ e)) d.members in
         let last : MembersJoin J a.memtables g c.descriptor.base (c.descriptor.active ∷ []) (c.descriptor.base + length (borne_by c.descriptor.active J)) =
         (record { it = d.active; at = d.active_at; family_is = d.active_family; first_is = sym d.base; some = row }, refl) in
         let all =
-        join-append J a.memtables g z.members (c.descriptor.active ∷ []) d.middle c.descriptor.base (c.descriptor.base + length (borne_by c.descriptor.active J)) old last in
+        join-append J a.memtables g z.members (c.descriptor.active ∷ []) d.middle c.descriptor.base
+        (c.descriptor.base + length (borne_by c.descriptor.active J)) old last in
         let h = few-live J g (z.members ++ c.descriptor.active ∷ []) a.memtables d.middle (c.descriptor.base + length (borne_by c.descriptor.active J)) all
         (λ m i. ⊎_elim (λ j. (member a k f s c o m z e j).0) (λ j. ⊎_elim (λ q. subst (IsLive memtable_live a.memtables) (sym q) (active-lives a k f s c o)) (λ q. absurd (in-none m q)) (in-cons m c.descriptor.active [] j)) (in_append m z.members (c.descriptor.active ∷ []) i)) in
         omega (arith, h, k.lawful.limits.live_memtables, length-append z.members (c.descriptor.active ∷ []))

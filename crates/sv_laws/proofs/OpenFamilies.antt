@@ -101,7 +101,8 @@ module _ (a : Books) (k : Sound a) (f s : ℕ) (c : SuperVersion) (o : IsOpen a 
       let lives = list-lives in
       let h = k.steady.listed c.descriptor.list m z e i in
       let w =
-      join_in a.journal a.memtables c.descriptor.family says.list.members says.middle c.descriptor.base m says.members (subst (λ (u : MemtableList). In m u.members) (some (sym e ∙ says.list_at)) i) in
+      join_in a.journal a.memtables c.descriptor.family says.list.members says.middle c.descriptor.base m says.members
+      (subst (λ (u : MemtableList). In m u.members) (some (sym e ∙ says.list_at)) i) in
       let of = ap (λ (u : Memtable). u.family) (some (sym h.at ∙ w.1)) ∙ w.2 ∙ of_f in (
         (k.lawful.memtables m).1 (inr (
           c.descriptor.list,
@@ -143,14 +144,19 @@ module _ (a : Books) (k : Sound a) (f s : ℕ) (c : SuperVersion) (o : IsOpen a 
   pub last-same : (t : Top) → slice_get a.tops f ≡ Some t
       → reach_of (files_of a.versions t.last) ≤ reach_of (files_of a.versions c.descriptor.version)
   last-same t e =
-      omega (arith, ap (λ (u : Top). reach_of (files_of a.versions u.last)) (some (sym e ∙ o.current.at)), ap (λ v. reach_of (files_of a.versions v)) last_is)
+      omega (
+        arith,
+        ap (λ (u : Top). reach_of (files_of a.versions u.last)) (some (sym e ∙ o.current.at)),
+        ap (λ v. reach_of (files_of a.versions v)) last_is,
+      )
 
   pub paired-set : (t : Top) → length (set a.tops f t) ≡ length a.families
   paired-set t = length-set a.tops f t ∙ k.lawful.paired
 
   pub fresh-mem : borne_by (length a.memtables + 1) a.journal ≡ []
   fresh-mem =
-      unborne a.journal (length a.memtables + 1) (λ i w e. omega (arith, mem-within (length a.memtables) (length a.families) w (k.steady.borne i w e)))
+      unborne a.journal (length a.memtables + 1)
+      (λ i w e. omega (arith, mem-within (length a.memtables) (length a.families) w (k.steady.borne i w e)))
 
   -- where the current's Version stays the last one, its files are still those of the last one
   pub last-still : (T : List Top) → slice_get T f ≡ Some (next_top a c.descriptor.version) → (file : FileMeta)

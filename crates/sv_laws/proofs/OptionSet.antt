@@ -24,7 +24,8 @@ module _ (a b : Books) (k : Sound a) (f : ℕ) where
         families = set a.families f (record p.family { options = o });
         tops = set a.tops f (next_top a c.descriptor.version);
       } in
-      subst (λ (z : Books). Sound z × After a z) (sym h.is) (installed a e k f (record p.family { options = o }) x (record {
+      subst (λ (z : Books). Sound z × After a z) (sym h.is)
+      (installed a e k f (record p.family { options = o }) x (record {
         rest = refl;
         family_is = of_f a k f h.s c p;
         live = refl;
@@ -63,13 +64,15 @@ module _ (a b : Books) (k : Sound a) (f : ℕ) where
           fits = w.fits;
         };
         lasts = λ file w.
-            inl (last-still a k f h.s c p (set a.tops f (next_top a c.descriptor.version)) (placed-set a.tops f p.current.top (next_top a c.descriptor.version) p.current.at).here file w);
+            inl
+            (last-still a k f h.s c p (set a.tops f (next_top a c.descriptor.version)) (placed-set a.tops f p.current.top (next_top a c.descriptor.version) p.current.at).here file w);
         families = placed-set a.families f p.family (record p.family { options = o }) p.family_at;
         tops = placed-set a.tops f p.current.top (next_top a c.descriptor.version) p.current.at;
         paired = paired-set a k f h.s c p (next_top a c.descriptor.version)
             ∙ sym (length-set a.families f (record p.family { options = o }));
         more = omega (arith, length-set a.families f (record p.family { options = o }));
-        few_families = omega (arith, length-set a.families f (record p.family { options = o }), k.lawful.limits.families);
+        few_families = omega
+            (arith, length-set a.families f (record p.family { options = o }), k.lawful.limits.families);
         stands = p.stands;
         options_are = refl;
         in_range = h.in_range;

@@ -40,7 +40,8 @@ module _ (a b : Books) (k : Sound a) (f s : ℕ) (c : SuperVersion) (p : IsOpen 
 
   file_is : awaits.file ≡ file
   file_is =
-      one-meta a.files.numbers a.files.captured a.files.next a.metas k.lawful.numbers k.lawful.metas awaits.file file awaits.covered covered awaits.number_is
+      one-meta a.files.numbers a.files.captured a.files.next a.metas k.lawful.numbers k.lawful.metas awaits.file file
+      awaits.covered covered awaits.number_is
 
   pub is-some : file.from < file.to
   is-some = subst (λ (m : FileMeta). m.from < m.to) file_is awaits.some
@@ -63,7 +64,8 @@ module _ (a b : Books) (k : Sound a) (f s : ℕ) (c : SuperVersion) (p : IsOpen 
 
   pub gn : GoesOn KeepsNumber a.files.numbers b.files.numbers
   gn =
-      marked-goes file.number Pending Live a.files.numbers b.files.numbers settled.numbers (λ e. absurd (pending_gone e))
+      marked-goes file.number Pending Live a.files.numbers b.files.numbers settled.numbers
+      (λ e. absurd (pending_gone e))
 
   pub now-live : IsRegistered b.files.numbers file.number Live
   now-live = (
@@ -124,7 +126,8 @@ module _ (a b : Books) (k : Sound a) (f s : ℕ) (c : SuperVersion) (p : IsOpen 
       → FilesStand a.files.numbers a.metas c.descriptor.family version.files (says a k f s c p).middle
   says-files version e =
       let d = says a k f s c p in
-      subst (λ (v : Version). FilesStand a.files.numbers a.metas c.descriptor.family v.files d.middle) (some (sym d.version_at ∙ e)) d.files
+      subst (λ (v : Version). FilesStand a.files.numbers a.metas c.descriptor.family v.files d.middle)
+      (some (sym d.version_at ∙ e)) d.files
 
   -- a file of the last Version, where that one is new, is one of it
   pub last-output : (v : Version) (T : List Top) → slice_get T f ≡ Some (next_top a (length a.versions + 1))

@@ -137,6 +137,7 @@ pub passed-stays : (j k : List Write) → Continues j k → (m family first : �
 passed-stays j k h m family first bears past =
     let more = continues-filter (λ (w : Write). w.mem == m) j k h in
     let few : length (borne_by m k) ≤ length (borne_by m j) =
-    bound j k m family first (length (borne_by m j)) (continues-filter (λ (w : Write). w.family == family) j k h) bears refl past in
+    bound j k m family first (length (borne_by m j)) (continues-filter (λ (w : Write). w.family == family) j k h)
+    bears refl past in
     let none : length more.0 ≤ 0 = omega (arith, ap length more.1, length-append (borne_by m j) more.0) in
     more.1 ∙ ap (λ l. borne_by m j ++ l) (none_more more.0 none) ∙ nil (borne_by m j)

@@ -83,7 +83,12 @@ module _ (a b : Books) (k : Sound a) (h : ChangesGrabbed a b) where
   numbers : NumbersStand b.files.numbers a.files.captured a.files.next
   numbers = record {
     once = λ n.
-        omega (arith, law.once n, total-same R (λ x. same n x.number) (λ x y t. ap (same n) (number_is x y t)) a.files.numbers b.files.numbers h.long h.goes);
+        omega (
+          arith,
+          law.once n,
+          total-same R (λ x. same n x.number) (λ x y t. ap (same n) (number_is x y t)) a.files.numbers b.files.numbers
+              h.long h.goes,
+        );
     below = λ i y at. let t = back i y at in omega (arith, law.below i t.0 t.1, number_is t.0 y t.2);
     pending = λ i y at p. let t = back i y at in let u = after_fixed t.0 y t.2 (inl p) in
         let w = law.pending i t.0 t.1 (ap (λ (z : RegisteredFile). z.status) (sym u) ∙ p) in
@@ -148,7 +153,12 @@ module _ (a b : Books) (k : Sound a) (h : ChangesGrabbed a b) where
         },
       ),
     );
-    few = omega (arith, k.lawful.limits.captured, total-same R (λ x. bit (is_some x.family)) (λ x y t. ap (λ f. bit (is_some f)) (family_is x y t)) a.files.numbers b.files.numbers h.long h.goes);
+    few = omega (
+      arith,
+      k.lawful.limits.captured,
+      total-same R (λ x. bit (is_some x.family)) (λ x y t. ap (λ f. bit (is_some f)) (family_is x y t))
+          a.files.numbers b.files.numbers h.long h.goes,
+    );
     holds = k.lawful.limits.holds;
     lanes = k.steady.holds;
     jobs = h.jobs;
@@ -211,7 +221,11 @@ strayed a b k n h =
             (λ o. grabbed_live (ap (λ (z : RegisteredFile). z.status) (sym o.1) ∙ w.3.status_is))
             (entry_push a.files.numbers y w.0 w.1 w.2),
       );
-      few = omega (arith, k.lawful.limits.captured, total-push (λ (x : RegisteredFile). bit (is_some x.family)) a.files.numbers y);
+      few = omega (
+        arith,
+        k.lawful.limits.captured,
+        total-push (λ (x : RegisteredFile). bit (is_some x.family)) a.files.numbers y,
+      );
       holds = k.lawful.limits.holds;
       lanes = k.steady.holds;
       jobs = k.lawful.limits.jobs;

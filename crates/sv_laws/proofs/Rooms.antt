@@ -20,13 +20,15 @@ below k n h = grind (arith, common_steps)
 -- the fault of a registry's `make`, as sv_registry has it
 abbrev pub make_fault : List SuperVersion → Option Refusal
 make_fault supers =
-    cond (nat_le 1048576 (length supers)) (Some RegisterFull) (cond (nat_le 256 (live_count super_live supers)) (Some TooManyLive) None)
+    cond (nat_le 1048576 (length supers)) (Some RegisterFull)
+    (cond (nat_le 256 (live_count super_live supers)) (Some TooManyLive) None)
 
 pub room-made : (supers : List SuperVersion) (place : ℕ) → make_fault supers ≡ None → place < 256
     → IsLeastFree super_live (λ s. s.place) supers place → HasRoom supers place
 room-made supers place none within least =
     let f =
-    not-due (nat_le 1048576 (length supers)) RegisterFull (cond (nat_le 256 (live_count super_live supers)) (Some TooManyLive) None) none in
+    not-due (nat_le 1048576 (length supers)) RegisterFull
+    (cond (nat_le 256 (live_count super_live supers)) (Some TooManyLive) None) none in
     let g = not-due (nat_le 256 (live_count super_live supers)) TooManyLive None f.1 in
     record {
       few = below 1048576 (length supers) f.0;

@@ -53,11 +53,13 @@ module _ (n : ℕ) (was now : FileStatus) (N K : List RegisteredFile) (m : IsMar
 
   pub marked-captures : captures K ≡ captures N
   marked-captures =
-      omega (arith, ap captures m.marked, total-change (λ (z : RegisteredFile). bit (is_some z.family)) N m.at m.it y m.found)
+      omega
+      (arith, ap captures m.marked, total-change (λ (z : RegisteredFile). bit (is_some z.family)) N m.at m.it y m.found)
 
   pub marked-registered : (k : ℕ) → registered k K ≡ registered k N
   marked-registered k =
-      omega (arith, ap (registered k) m.marked, total-change (λ (z : RegisteredFile). same k z.number) N m.at m.it y m.found)
+      omega
+      (arith, ap (registered k) m.marked, total-change (λ (z : RegisteredFile). same k z.number) N m.at m.it y m.found)
 
   pub marked-captured_numbers : captured_numbers K ≡ captured_numbers N
   marked-captured_numbers =
@@ -123,8 +125,10 @@ module _ (f n : ℕ) (now : FileStatus) (a b : FileRegister) (h : IsSettled f n 
   settled_only law g k e q =
       let w = law.held g k e in
       let at_is =
-      once-at a.numbers n w.0 h.numbers.at w.1 h.numbers.it (law.once n) w.2 h.numbers.found (w.3.number_is ∙ q) h.numbers.had.number_is in
-      some (sym w.3.family_is ∙ ap (λ (z : RegisteredFile). z.family) (some (sym w.2 ∙ ap (entry a.numbers) at_is ∙ h.numbers.found)) ∙ h.of)
+      once-at a.numbers n w.0 h.numbers.at w.1 h.numbers.it (law.once n) w.2 h.numbers.found (w.3.number_is ∙ q)
+      h.numbers.had.number_is in
+      some
+      (sym w.3.family_is ∙ ap (λ (z : RegisteredFile). z.family) (some (sym w.2 ∙ ap (entry a.numbers) at_is ∙ h.numbers.found)) ∙ h.of)
 
   pub numbers-settled : NumbersStand a.numbers a.captured a.next → (now ≡ Pending → ⊥) → (now ≡ Grabbed → ⊥)
       → NumbersStand b.numbers b.captured b.next

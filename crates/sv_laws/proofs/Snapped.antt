@@ -136,7 +136,8 @@ now-stands b k few_live few =
           let i = subst (λ (v : Version). In file v.files) same w.has in
           let j =
           join-within t.version.files 0 t.to t.files.joins (λ p m q. (t.files.each p m q).some) i.at file i.is in
-          subst (λ (z : Snapshot). IsClear (cut_of b.journal z.at f) file) (sym o.1) (inr (inl (omega (arith, j.1, t.within, cut f)))))
+          subst (λ (z : Snapshot). IsClear (cut_of b.journal z.at f) file) (sym o.1)
+          (inr (inl (omega (arith, j.1, t.within, cut f)))))
           (entry_push snapshots y n s e);
       awaited = λ n s e l f file w. ⊎_elim
           (λ o. h.awaited n s o l f file w)

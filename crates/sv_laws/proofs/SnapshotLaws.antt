@@ -24,7 +24,8 @@ snapshots-kept a b h k = record {
   lasts = λ n s e l f file w.
       let o = old n s e in
       let same = sym (cut-stays a.journal b.journal k.journal s.at f (h.within n s o)) in
-      subst (λ c. IsClear c file) same (⊎_elim (λ i. h.lasts n s o l f file i) (λ i. h.awaited n s o l f file i) (k.lasts f file w));
+      subst (λ c. IsClear c file) same
+      (⊎_elim (λ i. h.lasts n s o l f file i) (λ i. h.awaited n s o l f file i) (k.lasts f file w));
   awaited = λ n s e l f file w.
       let o = old n s e in
       let same = sym (cut-stays a.journal b.journal k.journal s.at f (h.within n s o)) in

@@ -101,8 +101,10 @@ module _ (N K : List RegisteredFile) (gn : GoesOn KeepsNumber N K) (X Y : List F
         version = v.0;
         version_at = v.1;
         middle = h.middle;
-        files = files-on d.family v.0.files h.middle (subst (λ xs. FilesStand N X d.family xs h.middle) (sym v.2.files) h.files);
-        members = subst (λ ms. MembersJoin J O d.family h.middle ms d.base) (sym l.2.members) (join-on J M O gm d.family h.list.members h.middle d.base h.members);
+        files = files-on d.family v.0.files h.middle
+            (subst (λ xs. FilesStand N X d.family xs h.middle) (sym v.2.files) h.files);
+        members = subst (λ ms. MembersJoin J O d.family h.middle ms d.base) (sym l.2.members)
+            (join-on J M O gm d.family h.list.members h.middle d.base h.members);
       }
 
   pub awaited-on : (J : List Write) (M O : List Memtable) (L P : List MemtableList) (V W : List Version)

@@ -31,7 +31,8 @@ module _ (a b : Books) (k : Sound a) (f : ℕ) where
       let n = length (of_family f a.journal) in
       let of = of_f a k f h.s c p in
       let x : SuperVersion =
-      live_super (record c.descriptor { active = length a.memtables + 1; list = length a.lists + 1; base = n }) h.place in
+      live_super (record c.descriptor { active = length a.memtables + 1; list = length a.lists + 1; base = n })
+      h.place in
       let y : Memtable = record { family = f; first = n; cell = h.cell; live = true } in
       let z : MemtableList = record { members = h.list.members ++ c.descriptor.active ∷ []; live = true } in
       let e : Books = record a {
@@ -41,11 +42,14 @@ module _ (a b : Books) (k : Sound a) (f : ℕ) where
         tops = set a.tops f (next_top a c.descriptor.version);
       } in
       let old : MembersJoin a.journal a.memtables c.descriptor.family d.middle h.list.members c.descriptor.base =
-      subst (λ (u : MemtableList). MembersJoin a.journal a.memtables c.descriptor.family d.middle u.members c.descriptor.base) (some (sym d.list_at ∙ h.list_at)) d.members in
+      subst
+      (λ (u : MemtableList). MembersJoin a.journal a.memtables c.descriptor.family d.middle u.members c.descriptor.base)
+      (some (sym d.list_at ∙ h.list_at)) d.members in
       let last : MembersJoin a.journal a.memtables c.descriptor.family c.descriptor.base (c.descriptor.active ∷ []) n =
       (record { it = d.active; at = d.active_at; family_is = d.active_family; first_is = sym d.base; some = h.row }, ends-at a k f h.s c p) in
       let all =
-      join-append a.journal a.memtables c.descriptor.family h.list.members (c.descriptor.active ∷ []) d.middle c.descriptor.base n old last in
+      join-append a.journal a.memtables c.descriptor.family h.list.members (c.descriptor.active ∷ []) d.middle
+      c.descriptor.base n old last in
       subst (λ (u : Books). Sound u × After a u) (sym h.is) (installed a e k f p.family x (record {
         rest = refl;
         family_is = of;
@@ -94,7 +98,9 @@ module _ (a b : Books) (k : Sound a) (f : ℕ) where
           version_at = d.version_at;
           middle = d.middle;
           files = d.files;
-          members = join-on a.journal a.memtables (a.memtables ++ y ∷ []) (goes-push KeepsMemtable a.memtables y memtable-itself) c.descriptor.family (h.list.members ++ c.descriptor.active ∷ []) d.middle n all;
+          members = join-on a.journal a.memtables (a.memtables ++ y ∷ [])
+              (goes-push KeepsMemtable a.memtables y memtable-itself) c.descriptor.family
+              (h.list.members ++ c.descriptor.active ∷ []) d.middle n all;
         };
         ends = omega (arith, ap (λ (l : List Write). length l) (fresh-mem a k f h.s c p));
         awaited = λ i q. let w = k.steady.awaited f i h.s c q p.current in record {
@@ -112,16 +118,20 @@ module _ (a b : Books) (k : Sound a) (f : ℕ) where
                 above = u.above;
                 front = u.front;
                 back = u.back ++ c.descriptor.active ∷ [];
-                parts = ap (λ (l : MemtableList). l.members ++ c.descriptor.active ∷ []) (some (sym h.list_at ∙ w.list_at))
+                parts = ap (λ (l : MemtableList). l.members ++ c.descriptor.active ∷ [])
+                    (some (sym h.list_at ∙ w.list_at))
                     ∙ ap (λ l. l ++ c.descriptor.active ∷ []) u.parts
                     ∙ append_assoc u.front u.back (c.descriptor.active ∷ []);
-                joins = join-on a.journal a.memtables (a.memtables ++ y ∷ []) (goes-push KeepsMemtable a.memtables y memtable-itself) c.descriptor.family u.front w.file.from w.file.to u.joins;
+                joins = join-on a.journal a.memtables (a.memtables ++ y ∷ [])
+                    (goes-push KeepsMemtable a.memtables y memtable-itself) c.descriptor.family u.front w.file.from
+                    w.file.to u.joins;
               }))
               (λ u. inr u)
               w.fits;
         };
         lasts = λ file w.
-            inl (last-still a k f h.s c p (set a.tops f (next_top a c.descriptor.version)) (placed-set a.tops f p.current.top (next_top a c.descriptor.version) p.current.at).here file w);
+            inl
+            (last-still a k f h.s c p (set a.tops f (next_top a c.descriptor.version)) (placed-set a.tops f p.current.top (next_top a c.descriptor.version) p.current.at).here file w);
         families = placed-same a.families f p.family p.family_at;
         tops = placed-set a.tops f p.current.top (next_top a c.descriptor.version) p.current.at;
         paired = paired-set a k f h.s c p (next_top a c.descriptor.version);

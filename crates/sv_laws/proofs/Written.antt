@@ -87,7 +87,8 @@ module _ (a b : Books) (k : Sound a) (f : ℕ) (w : Write) (h : IsWritten a b f 
     version_at = t.version_at;
     middle = t.middle;
     files = t.files;
-    members = join-still J K a.memtables x.family t.list.members t.middle x.base (λ m i. member-same x.list m t.list t.list_at i) t.members;
+    members = join-still J K a.memtables x.family t.list.members t.middle x.base
+        (λ m i. member-same x.list m t.list t.list_at i) t.members;
   }
 
   awaited : (n : ℕ) (x : Descriptor) → IsAwaited J a.memtables a.lists a.versions a.metas n x
@@ -108,7 +109,9 @@ module _ (a b : Books) (k : Sound a) (f : ℕ) (w : Write) (h : IsWritten a b f 
           front = u.front;
           back = u.back;
           parts = u.parts;
-          joins = join-still J K a.memtables x.family u.front t.file.from t.file.to (λ m i. member-same x.list m t.list t.list_at (subst (In m) (sym u.parts) (in-left m u.front u.back i))) u.joins;
+          joins = join-still J K a.memtables x.family u.front t.file.from t.file.to
+              (λ m i. member-same x.list m t.list t.list_at (subst (In m) (sym u.parts) (in-left m u.front u.back i)))
+              u.joins;
         }))
         (λ u. inr u)
         t.fits;
@@ -134,11 +137,25 @@ module _ (a b : Books) (k : Sound a) (f : ℕ) (w : Write) (h : IsWritten a b f 
           let writes : of_family it.family K ≡ of_family it.family J ++ w ∷ [] =
           subst (λ i. of_family i K ≡ of_family i J ++ w ∷ []) (sym fam) (family-same J w) in
           let end : it.first + length (borne_by m J) ≡ length (of_family it.family J) =
-          omega (arith, ends, first, ap (λ i. length (borne_by i J)) (sym h.mem_is ∙ q), ap (λ i. length (of_family i J)) (fam ∙ h.family_is)) in
+          omega (
+            arith,
+            ends,
+            first,
+            ap (λ i. length (borne_by i J)) (sym h.mem_is ∙ q),
+            ap (λ i. length (of_family i J)) (fam ∙ h.family_is),
+          ) in
           record {
             within = omega (arith, was.within, longer it.family);
-            rows = subst (λ (z : List Write × List Write). z.0 ≡ take (length z.0) (drop it.first z.1)) (λ i. (sym rows i, sym writes i)) (rows-grow (borne_by m J) (of_family it.family J) it.first w was.rows end);
-            few = omega (arith, h.few_rows, ap (λ i. length (borne_by i J)) q, ap (λ (l : List Write). length l) rows, length-append (borne_by m J) (w ∷ []));
+            rows = subst (λ (z : List Write × List Write). z.0 ≡ take (length z.0) (drop it.first z.1))
+                (λ i. (sym rows i, sym writes i))
+                (rows-grow (borne_by m J) (of_family it.family J) it.first w was.rows end);
+            few = omega (
+              arith,
+              h.few_rows,
+              ap (λ i. length (borne_by i J)) q,
+              ap (λ (l : List Write). length l) rows,
+              length-append (borne_by m J) (w ∷ []),
+            );
           }
 
       other : w.mem ≢ m → BearsFrom K m it
@@ -149,7 +166,8 @@ module _ (a b : Books) (k : Sound a) (f : ℕ) (w : Write) (h : IsWritten a b f 
             rows = subst (λ (l : List Write). l ≡ take (length l) (drop it.first (of_family it.family K))) (sym rows)
                 (dite (ℕ_discrete w.family it.family)
                 (λ q. let writes : of_family it.family K ≡ of_family it.family J ++ w ∷ [] = subst (λ i. of_family i K ≡ of_family i J ++ w ∷ []) q (family-same J w) in
-                subst (λ (l : List Write). borne_by m J ≡ take (length (borne_by m J)) (drop it.first l)) (sym writes) (rows-stand-any (borne_by m J) (of_family it.family J) it.first w was.rows))
+                subst (λ (l : List Write). borne_by m J ≡ take (length (borne_by m J)) (drop it.first l)) (sym writes)
+                (rows-stand-any (borne_by m J) (of_family it.family J) it.first w was.rows))
                 (λ q. subst (λ (l : List Write). borne_by m J ≡ take (length (borne_by m J)) (drop it.first l)) (sym (family-other it.family J w q)) was.rows));
             few = omega (arith, was.few, ap (λ (l : List Write). length l) rows);
           }
@@ -183,20 +201,33 @@ module _ (a b : Books) (k : Sound a) (f : ℕ) (w : Write) (h : IsWritten a b f 
           subst (λ j. borne_by j K ≡ borne_by j J ++ w ∷ []) active (borne-same J w) in
           let writes : of_family g K ≡ of_family g J ++ w ∷ [] =
           subst (λ j. of_family j K ≡ of_family j J ++ w ∷ []) (h.family_is ∙ sym q) (family-same J w) in
-          omega (arith, o.ends, ap (λ (l : List Write). length l) rows, ap (λ (l : List Write). length l) writes, length-append (borne_by o.it.descriptor.active J) (w ∷ []), length-append (of_family g J) (w ∷ []))
+          omega (
+            arith,
+            o.ends,
+            ap (λ (l : List Write). length l) rows,
+            ap (λ (l : List Write). length l) writes,
+            length-append (borne_by o.it.descriptor.active J) (w ∷ []),
+            length-append (of_family g J) (w ∷ []),
+          )
 
       other : g ≢ f → o.it.descriptor.base + length (borne_by o.it.descriptor.active K) ≡ length (of_family g K)
       other apart =
           let de = law.descriptors s o.it o.at o.live in
           let not_same : w.mem ≢ o.it.descriptor.active =
           λ q. apart (sym o.family_is ∙ sym de.active_family ∙ ap (λ (x : Memtable). x.family) (of_active o.it.descriptor.active de.active q de.active_at) ∙ d.active_family ∙ of_f a k f h.s c h.is_open) in
-          omega (arith, o.ends, ap (λ (l : List Write). length l) (borne-other o.it.descriptor.active J w not_same), ap (λ (l : List Write). length l) (family-other g J w (λ q. apart (sym q ∙ h.family_is))))
+          omega (
+            arith,
+            o.ends,
+            ap (λ (l : List Write). length l) (borne-other o.it.descriptor.active J w not_same),
+            ap (λ (l : List Write). length l) (family-other g J w (λ q. apart (sym q ∙ h.family_is))),
+          )
 
   mine : IsBorne (length a.memtables) (length a.families) w
   mine =
       let low = entry_le a.memtables c.descriptor.active d.active d.active_at in
       record {
-        family_made = omega (arith, k.steady.supers_of h.s c h.is_open.current.has, of_f a k f h.s c h.is_open, h.family_is);
+        family_made = omega
+            (arith, k.steady.supers_of h.s c h.is_open.current.has, of_f a k f h.s c h.is_open, h.family_is);
         by = inl (omega (arith, low.0, h.mem_is), omega (arith, low.1, h.mem_is), h.by_lane);
       }
 

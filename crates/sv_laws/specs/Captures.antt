@@ -35,9 +35,12 @@ pub record ChangesFiles (a b : Books) : Type 0 where
   pub jobs : b.files.jobs ≤ 32
   pub families : length b.files.captured ≡ 16
   pub busy : (f n : ℕ) → slice_get b.files.captured f ≡ Some (Some n) → f < length a.families
-  pub covers : (f n : ℕ) (m : FileMeta) → slice_get b.files.captured f ≡ Some (Some n) → In m b.metas → m.number ≡ n → m.to ≤ length (of_family f a.journal)
-  pub awaited : (f n s : ℕ) (x : SuperVersion) → slice_get b.files.captured f ≡ Some (Some n) → IsCurrent a.tops a.supers f s x → IsAwaited a.journal a.memtables a.lists a.versions b.metas n x.descriptor
-  pub clear : (f : ℕ) (file : FileMeta) → IsAwaitedFile b.files.captured b.metas f file → IsAwaitedFile a.files.captured a.metas f file ⊎ IsClearOfLive a.journal a.snapshots f file
+  pub covers : (f n : ℕ) (m : FileMeta) → slice_get b.files.captured f ≡ Some (Some n) → In m b.metas → m.number ≡ n
+      → m.to ≤ length (of_family f a.journal)
+  pub awaited : (f n s : ℕ) (x : SuperVersion) → slice_get b.files.captured f ≡ Some (Some n)
+      → IsCurrent a.tops a.supers f s x → IsAwaited a.journal a.memtables a.lists a.versions b.metas n x.descriptor
+  pub clear : (f : ℕ) (file : FileMeta) → IsAwaitedFile b.files.captured b.metas f file
+      → IsAwaitedFile a.files.captured a.metas f file ⊎ IsClearOfLive a.journal a.snapshots f file
   pub is : b ≡ record a { files = b.files; metas = b.metas }
 
 -- The next number is captured for the family, to cover what the file says and to keep what Live snapshots need.

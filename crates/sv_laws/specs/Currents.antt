@@ -84,7 +84,15 @@ pub record IsFiled (old new : FileRegister) (family : ℕ) (versions : List Vers
 -- The SuperVersion x, which is new, is the current of family f, whose record is r. A memtable, a list and a Version
 -- that are new are those which it names.
 pub record Installs (a b : Books) (f : ℕ) (r : Family) (x : SuperVersion) : Type 0 where
-  pub rest : b ≡ record a { supers = a.supers ++ x ∷ []; memtables = b.memtables; lists = b.lists; versions = b.versions; files = b.files; families = b.families; tops = b.tops }
+  pub rest : b ≡ record a {
+    supers = a.supers ++ x ∷ [];
+    memtables = b.memtables;
+    lists = b.lists;
+    versions = b.versions;
+    files = b.files;
+    families = b.families;
+    tops = b.tops;
+  }
   pub family_is : x.descriptor.family ≡ f
   pub live : x.live ≡ true
   pub room : HasRoom a.supers x.place
@@ -98,9 +106,11 @@ pub record Installs (a b : Books) (f : ℕ) (r : Family) (x : SuperVersion) : Ty
   pub version_lives : IsLiveVersion b.versions x.descriptor.version
   pub describes : Describes a.journal b.memtables b.lists b.versions b.files.numbers a.metas x.descriptor
   pub ends : end_of a.journal x ≡ length (of_family f a.journal)
-  pub awaited : (n : ℕ) → slice_get b.files.captured f ≡ Some (Some n) → IsAwaited a.journal b.memtables b.lists b.versions a.metas n x.descriptor
+  pub awaited : (n : ℕ) → slice_get b.files.captured f ≡ Some (Some n)
+      → IsAwaited a.journal b.memtables b.lists b.versions a.metas n x.descriptor
   -- a file of its Version was one of the family's last Version, or was to be one
-  pub lasts : (file : FileMeta) → IsLastFile b.versions b.tops f file → IsLastFile a.versions a.tops f file ⊎ IsAwaitedFile a.files.captured a.metas f file
+  pub lasts : (file : FileMeta) → IsLastFile b.versions b.tops f file
+      → IsLastFile a.versions a.tops f file ⊎ IsAwaitedFile a.files.captured a.metas f file
   -- the family
   pub families : IsPlaced a.families b.families f r
   pub tops : IsPlaced a.tops b.tops f (next_top a x.descriptor.version)
@@ -111,10 +121,12 @@ pub record Installs (a b : Books) (f : ℕ) (r : Family) (x : SuperVersion) : Ty
   pub options_are : r.options ≡ x.descriptor.options
   pub in_range : InRange r.options
   pub handles : length r.handles ≡ 32
-  pub name_free : (g : ℕ) (y : Family) → g ≢ f → slice_get a.families g ≡ Some y → y.dropped ≡ false → r.name ≡ y.name → ⊥
+  pub name_free : (g : ℕ) (y : Family) → g ≢ f → slice_get a.families g ≡ Some y → y.dropped ≡ false → r.name ≡ y.name
+      → ⊥
   -- Where the family was there before, it had a current, whose place the new one takes.
   pub was : (o : Family) → slice_get a.families f ≡ Some o → (r.name ≡ o.name) × (o.dropped ≡ false)
   pub had : (t : Top) → slice_get a.tops f ≡ Some t → (s : ℕ) × (t.current ≡ Some s)
   -- its active memtable is new, or that of the current before
   pub onward : (x.descriptor.active ≡ length a.memtables + 1) ⊎ ((s : ℕ) × (c : SuperVersion) × IsCurrent a.tops a.supers f s c × (c.descriptor.active ≡ x.descriptor.active))
-  pub reach : (t : Top) → slice_get a.tops f ≡ Some t → reach_of (files_of a.versions t.last) ≤ reach_of (files_of b.versions x.descriptor.version)
+  pub reach : (t : Top) → slice_get a.tops f ≡ Some t
+      → reach_of (files_of a.versions t.last) ≤ reach_of (files_of b.versions x.descriptor.version)

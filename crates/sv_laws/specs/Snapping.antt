@@ -34,8 +34,10 @@ pub record HasLiveCuts (journal : List Write) (snapshots : List Snapshot) (famil
 pub record KeepsCuts (a b : Books) : Type 0 where
   pub journal : Continues a.journal b.journal
   pub snapshots : b.snapshots ≡ a.snapshots
-  pub lasts : (f : ℕ) (file : FileMeta) → IsLastFile b.versions b.tops f file → IsLastFile a.versions a.tops f file ⊎ IsAwaitedFile a.files.captured a.metas f file
-  pub awaited : (f : ℕ) (file : FileMeta) → IsAwaitedFile b.files.captured b.metas f file → IsAwaitedFile a.files.captured a.metas f file ⊎ IsClearOfLive b.journal b.snapshots f file
+  pub lasts : (f : ℕ) (file : FileMeta) → IsLastFile b.versions b.tops f file
+      → IsLastFile a.versions a.tops f file ⊎ IsAwaitedFile a.files.captured a.metas f file
+  pub awaited : (f : ℕ) (file : FileMeta) → IsAwaitedFile b.files.captured b.metas f file
+      → IsAwaitedFile a.files.captured a.metas f file ⊎ IsClearOfLive b.journal b.snapshots f file
 
 -- a snapshot more, which reads what all writes so far leave
 pub record IsSnapped (a b : Books) : Type 0 where
