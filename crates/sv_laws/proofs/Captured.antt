@@ -13,7 +13,7 @@ use Rattle.sv_model.specs.declared.records.MemtableList.{MemtableList}
 use Rattle.sv_model.specs.declared.records.Version.{Version}
 use Rattle.sv_model.specs.declared.records.FileMeta.{FileMeta}
 use Rattle.sv_model.specs.declared.records.RegisteredFile.{RegisteredFile}
-use Rattle.sv_model.specs.declared.records.FileStatus.TheVariants.{Pending, Live, Grabbed}
+use Rattle.sv_model.specs.declared.records.FileStatus.TheVariants.{Pending}
 use Rattle.sv_model.specs.Lists.{In, same, bit}
 use Rattle.sv_model.specs.Ranges.{reach_of, FilesJoin}
 use Rattle.sv_model.specs.Journal.{borne_by, of_family}
@@ -31,6 +31,7 @@ use Rattle.sv_laws.proofs.Items.{some, in_append, in-left, in-cons, in-none, non
 use Rattle.sv_laws.proofs.StillFits.{join-le, join_reach}
 use Rattle.sv_laws.proofs.OpenFamilies.{of_f, says, one-current}
 use Rattle.sv_laws.proofs.FileChanges.{files-changed, awaited-metas}
+use Rattle.sv_laws.proofs.Apart.{pending_grabbed, pending_live}
 
 -- ---- a capture
 
@@ -43,21 +44,6 @@ none-registered n (x ∷ l) h =
     by : (i : ℕ) (y : RegisteredFile) → entry l i ≡ Some y → y.number ≡ n → ⊥
     by zero y e q = absurd (cc)
     by (suc i) y e q = h (suc (suc i)) y e q
-
-pending_live : {A : Type 0} → Pending ≡ Live → A
-pending_live e = absurd (cc)
-
-grabbed_live : {A : Type 0} → Grabbed ≡ Live → A
-grabbed_live e = absurd (cc)
-
-grabbed_pending : {A : Type 0} → Grabbed ≡ Pending → A
-grabbed_pending e = absurd (cc)
-
-pending_grabbed : {A : Type 0} → Pending ≡ Grabbed → A
-pending_grabbed e = absurd (cc)
-
-some_some : {A : Type 0} (k l : A) → Some (Some k) ≡ Some (Some l) → k ≡ l
-some_some k l e = some (some e)
 
 module _ (a b : Books) (k : Sound a) (f : ℕ) (file : FileMeta) (h : IsFileCaptured a b f file) where
   abbrev n : ℕ

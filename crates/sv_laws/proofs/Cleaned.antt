@@ -28,14 +28,12 @@ use Rattle.sv_laws.proofs.Items.{some}
 use Rattle.sv_laws.proofs.StillFits.{describes-on, last-on, awaited-on, reach-on}
 use Rattle.sv_laws.proofs.Registers.{goes-back, has-shrink, has-keep, live-back, total-le}
 use Rattle.sv_laws.proofs.EndsLaws.{files-goes, files-captures, files_live, files-live, numbers-ended, files-captured_numbers}
+use Rattle.sv_laws.proofs.Apart.{false_true}
 
 lives_le : (b c : Bool) → (b ≡ false → c ≡ false) → bit c ≤ bit b
 lives_le true true h = omega arith
 lives_le b false h = omega arith
 lives_le false true h = let f : true ≡ false = h refl in absurd (cc)
-
-not_live : {A : Type 0} → false ≡ true → A
-not_live e = absurd (cc)
 
 module _ (a b : Books) (k : Sound a) (s : ℕ) (x : SuperVersion) (h : IsCleaned a b s x) where
   law : Lawful a
@@ -89,11 +87,11 @@ module _ (a b : Books) (k : Sound a) (s : ℕ) (x : SuperVersion) (h : IsCleaned
 
   memtable-named : (m : ℕ) → NamedMemtable S b.lists m → NamedMemtable a.supers a.lists m
   memtable-named m = ⊎_elim
-      (λ w. inl (has-shrink (UsesMemtable m) a.supers s y (λ u. not_live u.live) w))
+      (λ w. inl (has-shrink (UsesMemtable m) a.supers s y (λ u. false_true u.live) w))
       (λ w. let t = list_back w.0 w.1 w.2 w.3.live in inr (w.0, t.0, t.1, record { live = t.2; has = subst (In m) t.3 w.3.has }))
 
   version-named : (v : ℕ) → NamedVersion S a.families a.tops v → NamedVersion a.supers a.families a.tops v
-  version-named v = ⊎_elim (λ w. inl (has-shrink (UsesVersion v) a.supers s y (λ u. not_live u.live) w)) (λ w. inr w)
+  version-named v = ⊎_elim (λ w. inl (has-shrink (UsesVersion v) a.supers s y (λ u. false_true u.live) w)) (λ w. inr w)
 
   file-named : (n : ℕ) → NamedFile b.versions n → NamedFile a.versions n
   file-named n w = let t = version_back w.0 w.1 w.2 w.3.live in (
@@ -125,14 +123,14 @@ module _ (a b : Books) (k : Sound a) (s : ℕ) (x : SuperVersion) (h : IsCleaned
   lawful : Lawful e
   lawful = record {
     memtables = λ m. (λ w. ((h.memtables.exact m).0 w).1, λ w. (h.memtables.exact m).1 ((law.memtables m).1 (memtable-named m w), w));
-    lists = λ l. (λ w. ((h.lists.exact l).0 w).1, λ w. (h.lists.exact l).1 ((law.lists l).1 (has-shrink (UsesList l) a.supers s y (λ u. not_live u.live) w), w));
+    lists = λ l. (λ w. ((h.lists.exact l).0 w).1, λ w. (h.lists.exact l).1 ((law.lists l).1 (has-shrink (UsesList l) a.supers s y (λ u. false_true u.live) w), w));
     versions = λ v. (λ w. ((h.versions.exact v).0 w).1, λ w. (h.versions.exact v).1 ((law.versions v).1 (version-named v w), w));
     files = λ n. (
       λ w. (files_live (NamedFile b.versions) a.files.numbers N h.numbers n w).1,
       λ w. files-live (NamedFile b.versions) a.files.numbers N h.numbers n ((law.files n).1 (file-named n w)) w,
     );
     descriptors = λ i r at live. ⊎_elim
-        (λ q. not_live (sym (ap (λ (w : SuperVersion). w.live) q.1) ∙ live))
+        (λ q. false_true (sym (ap (λ (w : SuperVersion). w.live) q.1) ∙ live))
         (λ q. describes-on a.files.numbers N gn a.metas a.metas gx a.journal a.memtables b.memtables a.lists b.lists a.versions b.versions gm gl gv r.descriptor (law.descriptors i r q.1 live))
         (entry_change a.supers s i y r at);
     lasts = λ g t te.
@@ -170,8 +168,8 @@ module _ (a b : Books) (k : Sound a) (s : ℕ) (x : SuperVersion) (h : IsCleaned
       awaited = λ g m i. inl i;
     });
     places = λ n z at live. ⊎_elim
-        (λ q. not_live (sym (ap (λ (w : SuperVersion). w.live) q.1) ∙ live))
-        (λ q. ((law.places n z q.1 live).0, λ j w p wl pl. ⊎_elim (λ u. not_live (sym (ap (λ (o : SuperVersion). o.live) u.1) ∙ wl)) (λ u. (law.places n z q.1 live).1 j w u.1 wl pl) (entry_change a.supers s j y w p)))
+        (λ q. false_true (sym (ap (λ (w : SuperVersion). w.live) q.1) ∙ live))
+        (λ q. ((law.places n z q.1 live).0, λ j w p wl pl. ⊎_elim (λ u. false_true (sym (ap (λ (o : SuperVersion). o.live) u.1) ∙ wl)) (λ u. (law.places n z q.1 live).1 j w u.1 wl pl) (entry_change a.supers s j y w p)))
         (entry_change a.supers s n y z at);
     cells = λ n z at live.
         let t = goes-back KeepsMemtable a.memtables b.memtables gm h.memtables.long n z at in

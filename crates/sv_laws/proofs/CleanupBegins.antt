@@ -1,5 +1,5 @@
 -- How a cleanup begins: the list and the Version go where nothing names them, and what is to be looked at.
-use Rattle.std.proofs.Common.{◌≡◌, ℕ, ◌⊎◌, inl, inr, ⊎_elim, true, false, List, [], ◌∷◌, length, Option, Some, None, refl, sym, ap, ◌∙◌, subst}
+use Rattle.std.proofs.Common.{◌≡◌, ℕ, ◌⊎◌, inl, inr, ⊎_elim, true, false, List, [], length, Option, Some, None, refl, sym, ap, ◌∙◌, subst}
 use Rattle.std.specs.Prelude.{slice_get}
 use Rattle.sv_model.specs.declared.records.SuperVersion.{SuperVersion}
 use Rattle.sv_model.specs.declared.records.MemtableList.{MemtableList}
@@ -18,9 +18,7 @@ use Rattle.sv_laws.proofs.Items.{in-none}
 use Rattle.sv_laws.proofs.Registers.{goes-back, has-shrink, has-keep, live-back}
 use Rattle.sv_laws.proofs.EndsLaws.{ends-of}
 use Rattle.sv_laws.proofs.MidstLaws.{member-or-not, file-or-not}
-
-not_live : {A : Type 0} → false ≡ true → A
-not_live e = absurd (cc)
+use Rattle.sv_laws.proofs.Apart.{false_true}
 
 module _ (a : Books) (k : Sound a) (s : ℕ) (x : SuperVersion) (at : entry a.supers s ≡ Some x) (live : x.live ≡ true) where
   abbrev S : List SuperVersion
@@ -43,7 +41,7 @@ module _ (a : Books) (k : Sound a) (s : ℕ) (x : SuperVersion) (at : entry a.su
             (λ o. o)
             (λ o. subst (λ i. Has (UsesList i) S) o.is f)
             (has-keep (UsesList l) a.supers s x (record x { live = false }) at ((k.lawful.lists l).0 (subst (λ K. IsLive list_live K l) e.0 w))),
-        λ w. subst (λ K. IsLive list_live K l) (sym e.0) ((k.lawful.lists l).1 (has-shrink (UsesList l) a.supers s (record x { live = false }) (λ u. not_live u.live) w)),
+        λ w. subst (λ K. IsLive list_live K l) (sym e.0) ((k.lawful.lists l).1 (has-shrink (UsesList l) a.supers s (record x { live = false }) (λ u. false_true u.live) w)),
       ))
   lists-ended (Some d) L given f e =
       let z = list-lives in
@@ -54,10 +52,10 @@ module _ (a : Books) (k : Sound a) (s : ℕ) (x : SuperVersion) (at : entry a.su
       subst (Ends KeepsList list_live (NamedList S) a.lists) (sym new.0)
       (ends-of KeepsList list_live (NamedList S) a.lists K (λ u v r. r.gone) (length-change a.lists d y) (goes-change KeepsList a.lists d z.it y list-itself d_at (record { members = refl; gone = λ _. refl })) (λ l. (
         λ w. ⊎_elim
-            (λ q. not_live (sym (ap (λ (u : MemtableList). u.live) q.1) ∙ w.live))
+            (λ q. false_true (sym (ap (λ (u : MemtableList). u.live) q.1) ∙ w.live))
             (λ q. ⊎_elim (λ o. o) (λ o. absurd (q.0 (sym o.is ∙ sym f.0))) (has-keep (UsesList l) a.supers s x (record x { live = false }) at ((k.lawful.lists l).0 (record { it = w.it; at = q.1; live = w.live }))))
             (entry_change a.lists d l y w.it w.at),
-        λ w. let o = (k.lawful.lists l).1 (has-shrink (UsesList l) a.supers s (record x { live = false }) (λ u. not_live u.live) w) in
+        λ w. let o = (k.lawful.lists l).1 (has-shrink (UsesList l) a.supers s (record x { live = false }) (λ u. false_true u.live) w) in
             record {
               it = o.it;
               at = entry-else a.lists d l y (λ q. f.1 (subst (λ i. Has (UsesList i) S) (q ∙ f.0) w)) ∙ o.at;
@@ -79,10 +77,6 @@ module _ (a : Books) (k : Sound a) (s : ℕ) (x : SuperVersion) (at : entry a.su
       (λ none. ⊎_elim (λ o. inl (subst (Has (HasMember m)) (sym new.0) o)) (λ o. inr ((new.1.exact m).1 (o.has, none))) (has-keep (HasMember m) a.lists d z.it (record z.it { live = false }) d_at w))
       (member-or-not m L)
 
-  option_list : Option ℕ → List ℕ
-  option_list None = []
-  option_list (Some n) = n ∷ []
-
   -- The memtables to look at: the active one where it is freed, and the members that are given.
   pub midst-begins : (active list : Option ℕ) (L : List MemtableList) (given left : List ℕ)
       → Frees (Has (UsesMemtable x.descriptor.active) S) x.descriptor.active active
@@ -98,7 +92,7 @@ module _ (a : Books) (k : Sound a) (s : ℕ) (x : SuperVersion) (at : entry a.su
             (λ o. ⊎_elim (λ u. inl (inr u)) (λ u. inr (ig m u)) (member-kept list L given fl e m o))
             ((k.lawful.memtables m).0 w);
         named = λ m. ⊎_elim
-            (λ o. (k.lawful.memtables m).1 (inl (has-shrink (UsesMemtable m) a.supers s (record x { live = false }) (λ u. not_live u.live) o)))
+            (λ o. (k.lawful.memtables m).1 (inl (has-shrink (UsesMemtable m) a.supers s (record x { live = false }) (λ u. false_true u.live) o)))
             (λ o. let t = goes-back KeepsList a.lists L ends.goes ends.long o.0 o.1 o.2 in (k.lawful.memtables m).1 (inr (
               o.0,
               t.0,
@@ -142,7 +136,7 @@ module _ (a : Books) (k : Sound a) (s : ℕ) (x : SuperVersion) (at : entry a.su
     where
       before : (v : ℕ) → NamedVersion S a.families a.tops v → NamedVersion a.supers a.families a.tops v
       before v = ⊎_elim
-          (λ w. inl (has-shrink (UsesVersion v) a.supers s (record x { live = false }) (λ u. not_live u.live) w))
+          (λ w. inl (has-shrink (UsesVersion v) a.supers s (record x { live = false }) (λ u. false_true u.live) w))
           (λ w. inr w)
   versions-ended (Some d) V given f e =
       let z = version-lives in
@@ -153,13 +147,13 @@ module _ (a : Books) (k : Sound a) (s : ℕ) (x : SuperVersion) (at : entry a.su
       subst (Ends KeepsVersion version_live (NamedVersion S a.families a.tops) a.versions) (sym new.0)
       (ends-of KeepsVersion version_live (NamedVersion S a.families a.tops) a.versions K (λ u v r. r.gone) (length-change a.versions d y) (goes-change KeepsVersion a.versions d z.it y version-itself d_at (record { files = refl; gone = λ _. refl })) (λ v. (
         λ w. ⊎_elim
-            (λ q. not_live (sym (ap (λ (u : Version). u.live) q.1) ∙ w.live))
+            (λ q. false_true (sym (ap (λ (u : Version). u.live) q.1) ∙ w.live))
             (λ q. ⊎_elim
             (λ o. ⊎_elim (λ u. inl u) (λ u. absurd (q.0 (sym u.is ∙ sym f.0))) (has-keep (UsesVersion v) a.supers s x (record x { live = false }) at o))
             (λ o. inr o)
             ((k.lawful.versions v).0 (record { it = w.it; at = q.1; live = w.live })))
             (entry_change a.versions d v y w.it w.at),
-        λ w. let o = (k.lawful.versions v).1 (⊎_elim (λ u. inl (has-shrink (UsesVersion v) a.supers s (record x { live = false }) (λ i. not_live i.live) u)) (λ u. inr u) w) in
+        λ w. let o = (k.lawful.versions v).1 (⊎_elim (λ u. inl (has-shrink (UsesVersion v) a.supers s (record x { live = false }) (λ i. false_true i.live) u)) (λ u. inr u) w) in
             record {
               it = o.it;
               at = entry-else a.versions d v y (λ q. f.1 (subst (NamedVersion S a.families a.tops) (q ∙ f.0) w)) ∙ o.at;

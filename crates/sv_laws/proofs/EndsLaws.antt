@@ -3,7 +3,7 @@ use Rattle.std.proofs.Common.{◌≡◌, ℕ, ◌⊎◌, inl, inr, ⊎_elim, Boo
 use Rattle.std.specs.Prelude.{◌↔◌, is_some}
 use Rattle.sv_model.specs.declared.records.RegisteredFile.{RegisteredFile}
 use Rattle.sv_model.specs.declared.records.FileStatus.{FileStatus}
-use Rattle.sv_model.specs.declared.records.FileStatus.TheVariants.{Pending, Live, Obsolete, Grabbed, Gone}
+use Rattle.sv_model.specs.declared.records.FileStatus.TheVariants.{Pending, Live, Obsolete, Grabbed}
 use Rattle.sv_model.specs.Lists.{same, bit}
 use Rattle.sv_model.specs.Registers.{GoesOn}
 use Rattle.sv_model.specs.After.{KeepsNumber}
@@ -12,6 +12,7 @@ use Rattle.sv_model.specs.Numbers.{NumbersStand, IsRegistered, captures, capture
 use Rattle.sv_laws.specs.Cleaning.{Ends, EndsFiles, TurnsFile}
 use Rattle.sv_laws.proofs.Registers.{goes-back, live-back, total-same}
 use Rattle.sv_laws.proofs.Metas.{captured_numbers-goes}
+use Rattle.sv_laws.proofs.Apart.{live_gone, live_pending}
 
 -- What code that only ends things shows: each record goes on, and what is Live is just what is named.
 pub ends-of : {A : Type 0} (Keeps : A → A → Type 0) (live : A → Bool) (Named : ℕ → Type 0) (a b : List A)
@@ -34,12 +35,6 @@ no-obsolete s h e =
     (λ q. absurd (let z : Obsolete ≡ Pending = sym e ∙ q in cc))
     (⊎_elim (λ q. absurd (let z : Obsolete ≡ Live = sym e ∙ q in cc)) (λ q. absurd (let z : Obsolete ≡ Grabbed = sym e ∙ q in cc)))
     h
-
-live_is : {A : Type 0} → Live ≡ Pending → A
-live_is e = absurd (cc)
-
-live_gone : {A : Type 0} → Live ≡ Gone → A
-live_gone e = absurd (cc)
 
 module _ (Named : ℕ → Type 0) (N K : List RegisteredFile) (h : EndsFiles Named N K) where
   number_same : (x y : RegisteredFile) → TurnsFile Named x y → y.number ≡ x.number
@@ -122,7 +117,7 @@ module _ (Named : ℕ → Type 0) (N K : List RegisteredFile) (h : EndsFiles Nam
         number_is = number_same w.1 t.0 t.2 ∙ w.3.number_is;
         status_is = ⊎_elim
             (λ q. ap (λ (z : RegisteredFile). z.status) q.0 ∙ w.3.status_is)
-            (λ q. live_is (sym q.1 ∙ w.3.status_is))
+            (λ q. live_pending (sym q.1 ∙ w.3.status_is))
             t.2;
         family_is = family_same w.1 t.0 t.2 ∙ w.3.family_is;
       },

@@ -26,7 +26,7 @@ use Rattle.sv_laws.proofs.StillFits.{join-le, file-on, files-join-push, join_rea
 use Rattle.sv_laws.proofs.Installed.{installed}
 use Rattle.sv_laws.proofs.OpenFamilies.{numbers_push, numbers-push, of_f, options_are, ends-at, says, active-lives, member, was, had, in-range, name-free, last-files, paired-set}
 use Rattle.sv_laws.proofs.OpenFamilies.{last_is, has-handles}
-use Rattle.sv_laws.proofs.Outputs.{is-some, is-flush, gn, now-live, still, none-captured, file-of, says-files, last-output, was-awaited}
+use Rattle.sv_laws.proofs.Outputs.{is-some, is-flush, numbers-go, now-live, still, none-captured, file-of, says-files, last-output, was-awaited}
 
 -- Two ways to part members at a write are one: what comes after the file's memtables begins at its end.
 pub parted-join : (J : List Write) (M : List Memtable) (f : ℕ) (front back low high : List ℕ) (from to base : ℕ)
@@ -61,7 +61,7 @@ module _ (a b : Books) (k : Sound a) (f : ℕ) (file : FileMeta) where
       let of = of_f a k f h.s c p in
       let flush = is-flush a b k f h.s c p file h.covered h.settled h.kind h.list h.list_at h.version h.version_at in
       let old = says-files a b k f h.s c p file h.covered h.settled h.version h.version_at in
-      let g = gn a b k f h.s c p file h.covered h.settled in
+      let g = numbers-go a b k f h.s c p file h.covered h.settled in
       let x : SuperVersion =
       live_super (record c.descriptor { list = length a.lists + 1; version = length a.versions + 1 }) h.place in
       let z : MemtableList = record { members = h.back; live = true } in

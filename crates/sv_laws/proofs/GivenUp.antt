@@ -1,6 +1,6 @@
 -- A capture is given up.
-use Rattle.std.proofs.Common.{◌≡◌, ◌≤◌, ℕ, suc, inl, ⊎_elim, length, None, refl, sym, ap, ◌∙◌, subst, arith}
-use Rattle.sv_model.specs.declared.records.FileStatus.TheVariants.{Pending, Live, Obsolete, Grabbed, Gone}
+use Rattle.std.proofs.Common.{◌≤◌, ℕ, suc, inl, ⊎_elim, length, None, refl, sym, ap, ◌∙◌, subst, arith}
+use Rattle.sv_model.specs.declared.records.FileStatus.TheVariants.{Pending, Live, Obsolete}
 use Rattle.sv_model.specs.Lists.{Every}
 use Rattle.sv_model.specs.After.{After}
 use Rattle.sv_model.specs.Books.{Books, FileRegister}
@@ -10,21 +10,7 @@ use Rattle.sv_model.proofs.AfterLaws.{continues-itself}
 use Rattle.sv_laws.specs.Captures.{IsGivenUp}
 use Rattle.sv_laws.proofs.Settled.{marked-goes, marked-keeps, marked_is, marked-captures, settled-captured, settled_other, numbers-settled, marked-captured_numbers}
 use Rattle.sv_laws.proofs.FileChanges.{files-changed}
-
-pending_live : {A : Type 0} → Pending ≡ Live → A
-pending_live e = absurd (cc)
-
-obsolete_pending : {A : Type 0} → Obsolete ≡ Pending → A
-obsolete_pending e = absurd (cc)
-
-obsolete_grabbed : {A : Type 0} → Obsolete ≡ Grabbed → A
-obsolete_grabbed e = absurd (cc)
-
-live_obsolete : {A : Type 0} → Live ≡ Obsolete → A
-live_obsolete e = absurd (cc)
-
-pending_gone : {A : Type 0} → Pending ≡ Gone → A
-pending_gone e = absurd (cc)
+use Rattle.sv_laws.proofs.Apart.{live_obsolete, obsolete_grabbed, obsolete_pending, pending_gone, pending_live}
 
 pub given-up : (a b : Books) (k : Sound a) (f n : ℕ) → IsGivenUp a b f n → Sound b × After a b
 given-up a b k f n h =

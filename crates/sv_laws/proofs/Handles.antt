@@ -13,6 +13,7 @@ use Rattle.sv_laws.specs.Families.{IsDropped, IsOpened, IsReleased, IsRetired, I
 use Rattle.sv_laws.proofs.Items.{some}
 use Rattle.sv_laws.proofs.Growing.{get_within, get-some}
 use Rattle.sv_laws.proofs.FamilyChanges.{family-changed}
+use Rattle.sv_laws.proofs.Apart.{false_true}
 
 set-self : {A : Type 0} (l : List A) (f : ℕ) (x : A) → slice_get l f ≡ Some x → set l f x ≡ l
 set-self [] f x e = absurd (cc)
@@ -31,19 +32,6 @@ not-retired y lane e =
 
 pub not-retired-open : (y : Family) → y.dropped ≡ false → is_retired y ≡ false
 not-retired-open y e = ap (λ b. b && (total bit y.handles == 0)) e
-
-false_true : {A : Type 0} → false ≡ true → A
-false_true e = absurd (cc)
-
-retired-other : (y : Family) → y.dropped ≡ true → y.dropped ≡ false → ⊥
-retired-other y p q = false_true (sym q ∙ p)
-
-dropped-of : (y : Family) → is_retired y ≡ true → y.dropped ≡ true
-dropped-of y e = by y.dropped (total bit y.handles == 0) e
-  where
-    by : (b c : Bool) → (b && c) ≡ true → b ≡ true
-    by true c h = refl
-    by false c h = absurd (let z : false ≡ true = h in cc)
 
 module _ (a b : Books) (k : Sound a) (f : ℕ) where
   top-of : (y : Family) → slice_get a.families f ≡ Some y → (t : Top) × (slice_get a.tops f ≡ Some t)

@@ -12,7 +12,7 @@ use Rattle.sv_model.specs.declared.records.Version.{Version}
 use Rattle.sv_model.specs.declared.records.FileMeta.{FileMeta}
 use Rattle.sv_model.specs.declared.records.Family.{Family}
 use Rattle.sv_model.specs.declared.records.Top.{Top}
-use Rattle.sv_model.specs.declared.records.FileStatus.TheVariants.{Pending, Live, Grabbed}
+use Rattle.sv_model.specs.declared.records.FileStatus.TheVariants.{Pending, Live}
 use Rattle.sv_model.specs.Journal.{borne_by, of_family}
 use Rattle.sv_model.specs.Lists.{In}
 use Rattle.sv_model.specs.Named.{numbers_of}
@@ -33,12 +33,7 @@ use Rattle.sv_laws.proofs.StillFits.{last-on, describes-on, join-le}
 use Rattle.sv_laws.proofs.InstallNames.{memtables-on, lists-on, versions-on, numbers-on}
 use Rattle.sv_laws.proofs.SnapshotLaws.{snapshots-kept}
 use Rattle.sv_laws.proofs.BorneRows.{unborne, mem-within}
-
-not_pending : Live ≡ Pending → ⊥
-not_pending e = absurd (cc)
-
-not_grabbed : Live ≡ Grabbed → ⊥
-not_grabbed e = absurd (cc)
+use Rattle.sv_laws.proofs.Apart.{live_grabbed, live_pending}
 
 module _ (a b : Books) (k : Sound a) (f : ℕ) (r : Family) (x : SuperVersion) (h : Installs a b f r x) where
   abbrev S : List SuperVersion
@@ -159,7 +154,7 @@ module _ (a b : Books) (k : Sound a) (f : ℕ) (r : Family) (x : SuperVersion) (
   pub numbers_law : NumbersStand b.files.numbers b.files.captured b.files.next
   numbers_law = ⊎_elim
       (λ q. subst (λ (F : FileRegister). NumbersStand F.numbers F.captured F.next) (sym q) law.numbers)
-      (λ o. numbers-settled f o.number Live a.files b.files o.settled law.numbers not_pending not_grabbed)
+      (λ o. numbers-settled f o.number Live a.files b.files o.settled law.numbers (λ e. live_pending e) (λ e. live_grabbed e))
       h.files
 
   pub metas_law : numbers_of a.metas ≡ captured_numbers b.files.numbers

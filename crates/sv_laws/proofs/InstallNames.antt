@@ -1,5 +1,5 @@
 -- A SuperVersion becomes current: what is Live is named, and what is named is Live.
-use Rattle.std.proofs.Common.{◌≡◌, ℕ, ◌+◌, ◌⊎◌, inl, inr, ⊎_elim, List, [], ◌∷◌, ◌++◌, length, Some, sym, ap, ◌∙◌, subst}
+use Rattle.std.proofs.Common.{ℕ, ◌+◌, ◌⊎◌, inl, inr, ⊎_elim, List, [], ◌∷◌, ◌++◌, length, Some, sym, ap, ◌∙◌, subst}
 use Rattle.std.specs.Prelude.{slice_get, ◌↔◌}
 use mathlib.Core.Logic.{dite}
 use native.Mathlib.Decide.{ℕ_discrete}
@@ -9,7 +9,7 @@ use Rattle.sv_model.specs.declared.records.MemtableList.{MemtableList}
 use Rattle.sv_model.specs.declared.records.Version.{Version}
 use Rattle.sv_model.specs.declared.records.Family.{Family}
 use Rattle.sv_model.specs.declared.records.Top.{Top}
-use Rattle.sv_model.specs.declared.records.FileStatus.TheVariants.{Pending, Live, Gone}
+use Rattle.sv_model.specs.declared.records.FileStatus.TheVariants.{Pending, Live}
 use Rattle.sv_model.specs.Lists.{In}
 use Rattle.sv_model.specs.Named.{HasMember, HasFile, numbers_of, IsLive, memtable_live, list_live, version_live, UsesMemtable, UsesList, UsesVersion, HasLast, NamedMemtable, NamedVersion, NamedList, NamedFile}
 use Rattle.sv_model.specs.Registers.{GoesOn}
@@ -24,12 +24,7 @@ use Rattle.sv_laws.specs.Currents.{Installs, IsNewMemtable, IsNewList, IsNewVers
 use Rattle.sv_laws.proofs.Items.{some, has-old, has-new, has_push}
 use Rattle.sv_laws.proofs.Growing.{grown_entry, grown-old, grown-goes, grown-has, placed_get}
 use Rattle.sv_laws.proofs.Settled.{marked-goes, marked-keeps, marked_is}
-
-not_pending : Live ≡ Pending → ⊥
-not_pending e = absurd (cc)
-
-pending_gone : Pending ≡ Gone → ⊥
-pending_gone e = absurd (cc)
+use Rattle.sv_laws.proofs.Apart.{live_pending, pending_gone}
 
 module _ (a b : Books) (k : Sound a) (f : ℕ) (r : Family) (x : SuperVersion) (h : Installs a b f r x) where
   abbrev S : List SuperVersion
@@ -145,7 +140,7 @@ module _ (a b : Books) (k : Sound a) (f : ℕ) (r : Family) (x : SuperVersion) (
   live-n : (n : ℕ) → IsRegistered a.files.numbers n Live → IsRegistered b.files.numbers n Live
   live-n n w = ⊎_elim
       (λ q. subst (λ (F : FileRegister). IsRegistered F.numbers n Live) (sym q) w)
-      (λ o. marked-keeps o.number Pending Live a.files.numbers b.files.numbers o.settled.numbers n Live not_pending w)
+      (λ o. marked-keeps o.number Pending Live a.files.numbers b.files.numbers o.settled.numbers n Live (λ e. live_pending e) w)
       h.files
 
   live_n : (n : ℕ) → IsRegistered b.files.numbers n Live → IsRegistered a.files.numbers n Live ⊎ NamedFile b.versions n

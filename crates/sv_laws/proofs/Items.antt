@@ -35,9 +35,6 @@ get_push (z ∷ l) y (suc n) x is = get_push l y n x is
 pub every_push : {A : Type 0} (P : A → Type 0) (l : List A) (y : A) → Every P l → P y → Every P (l ++ y ∷ [])
 every_push P l y all here i x e = ⊎_elim (λ h. all i x h) (λ h. subst P (sym h) here) (get_push l y i x e)
 
-pub every_map : {A : Type 0} (P Q : A → Type 0) (l : List A) → ((x : A) → P x → Q x) → Every P l → Every Q l
-every_map P Q l f all i x e = f x (all i x e)
-
 pub in-cons : {A : Type 0} (m k : A) (l : List A) → In m (k ∷ l) → (m ≡ k) ⊎ In m l
 in-cons m k l i = by i.at i.is
   where

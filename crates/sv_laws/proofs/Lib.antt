@@ -1,3 +1,4 @@
+pub mod Apart
 pub mod Items
 pub mod Growing
 pub mod Registers

@@ -24,13 +24,7 @@ use Rattle.sv_laws.proofs.Settled.{marked_entry}
 use Rattle.sv_laws.proofs.Metas.{once-at}
 use Rattle.sv_laws.proofs.Registers.{goes-back, live-back, total-same}
 use Rattle.sv_laws.proofs.EndsLaws.{ends-of}
-
-not_live : {A : Type 0} → false ≡ true → A
-not_live e = absurd (cc)
-
-false_of : (b : Bool) → (b ≡ true → ⊥) → b ≡ false
-false_of true h = absurd (h refl)
-false_of false h = refl
+use Rattle.sv_laws.proofs.Apart.{false_true, live_obsolete}
 
 -- ---- is it named at all
 
@@ -97,7 +91,7 @@ module _ (Named : ℕ → Type 0) (old now : List Memtable) (m : ℕ) (left cell
 
     alive_back : (n : ℕ) → IsLive memtable_live then n → (n ≢ m) × IsLive memtable_live now n
     alive_back n w = ⊎_elim
-        (λ q. not_live (sym (ap (λ (z : Memtable). z.live) q.1) ∙ w.live))
+        (λ q. false_true (sym (ap (λ (z : Memtable). z.live) q.1) ∙ w.live))
         (λ q. (q.0, record { it = w.it; at = q.1; live = w.live }))
         (entry_change now m n dead w.it w.at)
 
@@ -214,9 +208,6 @@ midst-file Named old now then n left once h free mark = record {
       (marked_entry n Live Obsolete now then mark w.0 w.1 w.2);
 }
   where
-    live_obsolete : {A : Type 0} → Live ≡ Obsolete → A
-    live_obsolete e = absurd (cc)
-
     sums : (k : ℕ) → registered k now ≡ registered k old
     sums k = total-same (λ x y. (y ≡ x) ⊎ ((y ≡ record x { status = Obsolete }) × (x.status ≡ Live) × (Named x.number → ⊥))) (λ x. same k x.number)
         (λ x y t. ⊎_elim (λ q. ap (λ (z : RegisteredFile). same k z.number) q) (λ q. ap (λ (z : RegisteredFile). same k z.number) q.0) t) old now h.long h.goes

@@ -6,7 +6,7 @@ use Rattle.sv_model.specs.declared.records.Memtable.{Memtable}
 use Rattle.sv_model.specs.declared.records.MemtableList.{MemtableList}
 use Rattle.sv_model.specs.declared.records.Version.{Version}
 use Rattle.sv_model.specs.declared.records.RegisteredFile.{RegisteredFile}
-use Rattle.sv_model.specs.declared.records.FileStatus.TheVariants.{Pending, Live}
+use Rattle.sv_model.specs.declared.records.FileStatus.TheVariants.{Pending}
 use Rattle.sv_model.specs.Journal.{borne_by}
 use Rattle.sv_model.specs.Lists.{In, total, bit}
 use Rattle.sv_model.specs.Named.{IsLive, memtable_live, NamedFile}
@@ -24,6 +24,7 @@ use Rattle.sv_laws.proofs.Items.{some, in-cons, in-suc, in-none, in_append}
 use Rattle.sv_laws.proofs.Metas.{once-at}
 use Rattle.sv_laws.proofs.StillFits.{join-on, join-append, join_reach}
 use Rattle.sv_laws.proofs.OpenFamilies.{current-top, says, member, active-lives}
+use Rattle.sv_laws.proofs.Apart.{pending_live}
 
 late : (J : List Write) (M : List Memtable) (f : ℕ) (ms : List ℕ) (from to m : ℕ) (it : Memtable)
     → MembersJoin J M f from ms to → In m ms → entry M m ≡ Some it → from ≤ it.first
@@ -79,11 +80,8 @@ module _ (a : Books) (k : Sound a) where
   unnamed n w h =
       let l = (k.lawful.files n).1 h in
       let q = once-at a.files.numbers n w.0 l.0 w.1 l.1 (k.lawful.numbers.once n) w.2 l.2 w.3.number_is l.3.number_is in
-      clash
+      pending_live
       (sym w.3.status_is ∙ ap (λ (z : RegisteredFile). z.status) (some (sym w.2 ∙ ap (entry a.files.numbers) q ∙ l.2)) ∙ l.3.status_is)
-    where
-      clash : Pending ≡ Live → ⊥
-      clash e = absurd (cc)
 
   module _ (f s : ℕ) (c : SuperVersion) (o : IsOpen a f s c) where
     -- a memtable more has room in the list

@@ -3,7 +3,6 @@ use Rattle.sv_model.specs.Snapshots.{IsLastFile}
 use Rattle.std.proofs.Common.{◌≡◌, ◌≢◌, ◌<◌, ◌≤◌, ℕ, ◌+◌, ◌⊎◌, inl, inr, ⊎_elim, true, false, List, [], ◌∷◌, ◌++◌, length, Some, refl, sym, ap, ◌∙◌, subst, arith, set, length-set}
 use Rattle.std.specs.Prelude.{slice_get}
 use Rattle.sv_model.specs.declared.records.SuperVersion.{SuperVersion}
-use Rattle.sv_model.specs.declared.records.Descriptor.{Descriptor}
 use Rattle.sv_model.specs.declared.records.Memtable.{Memtable}
 use Rattle.sv_model.specs.declared.records.MemtableList.{MemtableList}
 use Rattle.sv_model.specs.declared.records.Version.{Version}
@@ -54,9 +53,6 @@ numbers-push [] f = record { at = 0; is = refl }
 numbers-push (x ∷ xs) f = in-suc f.number x.number (numbers_of (xs ++ f ∷ [])) (numbers-push xs f)
 
 module _ (a : Books) (k : Sound a) (f s : ℕ) (c : SuperVersion) (o : IsOpen a f s c) where
-  abbrev d : Descriptor
-  d = c.descriptor
-
   pub top-is : IsTop a.journal a.supers f o.family o.current.top.last s
   top-is = k.lawful.tops f s o.family o.current.top o.family_at o.current.at o.current.is
 

@@ -5,7 +5,7 @@ use Rattle.sv_model.specs.declared.records.SuperVersion.{SuperVersion}
 use Rattle.sv_model.specs.declared.records.MemtableList.{MemtableList}
 use Rattle.sv_model.specs.declared.records.Version.{Version}
 use Rattle.sv_model.specs.declared.records.FileMeta.{FileMeta}
-use Rattle.sv_model.specs.declared.records.FileStatus.TheVariants.{Pending, Live, Gone}
+use Rattle.sv_model.specs.declared.records.FileStatus.TheVariants.{Pending, Live}
 use Rattle.sv_model.specs.declared.records.Top.{Top}
 use Rattle.sv_model.specs.Lists.{In}
 use Rattle.sv_model.specs.Named.{numbers_of}
@@ -24,15 +24,7 @@ use Rattle.sv_laws.proofs.Metas.{captured-goes}
 use Rattle.sv_laws.proofs.OpenFamilies.{of_f, says, version-lives}
 use Rattle.sv_laws.proofs.Metas.{one-meta}
 use Rattle.sv_model.specs.Snapshots.{IsLastFile, IsAwaitedFile}
-
-clash : {A : Type 0} → true ≡ false → A
-clash e = absurd (cc)
-
-pending_gone : Pending ≡ Gone → ⊥
-pending_gone e = absurd (cc)
-
-live_pending : Live ≡ Pending → ⊥
-live_pending e = absurd (cc)
+use Rattle.sv_laws.proofs.Apart.{live_pending, pending_gone, true_false}
 
 module _ (a b : Books) (k : Sound a) (f s : ℕ) (c : SuperVersion) (p : IsOpen a f s c) (file : FileMeta) (covered : In file a.metas) (settled : IsSettled f file.number Live a.files b.files) where
   awaits : IsAwaited a.journal a.memtables a.lists a.versions a.metas file.number c.descriptor
@@ -52,18 +44,18 @@ module _ (a b : Books) (k : Sound a) (f s : ℕ) (c : SuperVersion) (p : IsOpen 
   is-flush kind list le version ve = ⊎_elim
       (λ u. subst (λ (z : List ℕ × (List FileMeta × FileMeta)). IsFlush a.journal a.memtables c.descriptor.family z.0 z.1.0 z.1.1)
       (λ i. (ap (λ (l : MemtableList). l.members) (some (sym awaits.list_at ∙ le)) i, (ap (λ (v : Version). v.files) (some (sym awaits.version_at ∙ ve)) i, file_is i))) u)
-      (λ u. clash (sym u.last_is ∙ ap (λ (m : FileMeta). m.bottom.last) file_is ∙ kind))
+      (λ u. true_false (sym u.last_is ∙ ap (λ (m : FileMeta). m.bottom.last) file_is ∙ kind))
       awaits.fits
 
   pub is-merge : file.bottom.last ≡ true → (version : Version) → entry a.versions c.descriptor.version ≡ Some version
       → IsMerge version.files file
   is-merge kind version ve = ⊎_elim
-      (λ u. clash (sym kind ∙ ap (λ (m : FileMeta). m.bottom.last) (sym file_is) ∙ u.above))
+      (λ u. true_false (sym kind ∙ ap (λ (m : FileMeta). m.bottom.last) (sym file_is) ∙ u.above))
       (λ u. subst (λ (z : List FileMeta × FileMeta). IsMerge z.0 z.1) (λ i. (ap (λ (v : Version). v.files) (some (sym awaits.version_at ∙ ve)) i, file_is i)) u)
       awaits.fits
 
-  pub gn : GoesOn KeepsNumber a.files.numbers b.files.numbers
-  gn =
+  pub numbers-go : GoesOn KeepsNumber a.files.numbers b.files.numbers
+  numbers-go =
       marked-goes file.number Pending Live a.files.numbers b.files.numbers settled.numbers
       (λ e. absurd (pending_gone e))
 
@@ -80,7 +72,7 @@ module _ (a b : Books) (k : Sound a) (f s : ℕ) (c : SuperVersion) (p : IsOpen 
 
   pub stay-live : (n : ℕ) → IsRegistered a.files.numbers n Live → IsRegistered b.files.numbers n Live
   stay-live n w =
-      marked-keeps file.number Pending Live a.files.numbers b.files.numbers settled.numbers n Live live_pending w
+      marked-keeps file.number Pending Live a.files.numbers b.files.numbers settled.numbers n Live (λ e. live_pending e) w
 
   -- what the Version of the current names is Live still
   pub still : (version : Version) → entry a.versions c.descriptor.version ≡ Some version → (n : ℕ)
@@ -108,7 +100,7 @@ module _ (a b : Books) (k : Sound a) (f s : ℕ) (c : SuperVersion) (p : IsOpen 
   file-of =
       let w = k.lawful.numbers.held f file.number settled.was in
       record {
-        captured = captured-goes a.files.numbers b.files.numbers gn c.descriptor.family file.number (
+        captured = captured-goes a.files.numbers b.files.numbers numbers-go c.descriptor.family file.number (
           w.0,
           w.1,
           w.2,

@@ -1,23 +1,12 @@
 -- A journal that goes on: the writes of a family, a memtable and a lane go on too.
-use Rattle.std.proofs.Common.{◌≡◌, ℕ, zero, suc, ◌+◌, ◌<◌, ◌≤◌, ◌==◌, Bool, true, false, cond, List, [], ◌∷◌, ◌++◌, length, take, drop, map, filter, refl, sym, ap, ◌∙◌, arith, length-append}
+use Rattle.std.proofs.Common.{◌≡◌, ℕ, zero, suc, ◌+◌, ◌<◌, ◌≤◌, ◌==◌, Bool, true, false, cond, List, [], ◌∷◌, ◌++◌, length, take, drop, map, filter, refl, ap, ◌∙◌, arith, length-append, append-nil}
 use Rattle.std.proofs.lemmas.List.{take-append-le}
 use Rattle.std.proofs.lemmas.List.Elements.{filter-append}
-use mathlib.Core.List.{append_assoc}
 use Rattle.sv_model.specs.declared.writes.Write.{Write}
 use Rattle.sv_model.specs.Journal.{of_family, borne_by, rows_of}
 use Rattle.sv_model.specs.Flat.{range_of}
 use Rattle.sv_model.specs.Lists.{total, bit}
 use Rattle.sv_model.specs.After.{Continues}
-
-nil : {A : Type 0} (l : List A) → l ++ [] ≡ l
-nil [] = refl
-nil (x ∷ l) = ap (λ z. x ∷ z) (nil l)
-
-pub continues-itself : {A : Type 0} (a : List A) → Continues a a
-continues-itself a = ([], sym (nil a))
-
-pub continues-through : {A : Type 0} (a b c : List A) → Continues a b → Continues b c → Continues a c
-continues-through a b c h k = (h.0 ++ k.0, k.1 ∙ ap (λ l. l ++ k.0) h.1 ∙ append_assoc a h.0 k.0)
 
 pub continues-filter : {A : Type 0} (p : A → Bool) (a b : List A) → Continues a b → Continues (filter p a) (filter p b)
 continues-filter p a b h = (filter p h.0, ap (filter p) h.1 ∙ filter-append p a h.0)
@@ -140,4 +129,4 @@ passed-stays j k h m family first bears past =
     bound j k m family first (length (borne_by m j)) (continues-filter (λ (w : Write). w.family == family) j k h)
     bears refl past in
     let none : length more.0 ≤ 0 = omega (arith, ap length more.1, length-append (borne_by m j) more.0) in
-    more.1 ∙ ap (λ l. borne_by m j ++ l) (none_more more.0 none) ∙ nil (borne_by m j)
+    more.1 ∙ ap (λ l. borne_by m j ++ l) (none_more more.0 none) ∙ append-nil (borne_by m j)

@@ -1,6 +1,6 @@
 -- Numbers are grabbed and given back; strays; holds and jobs.
 use Rattle.sv_laws.proofs.Metas.{captured_numbers-goes, captured_numbers-push}
-use Rattle.std.proofs.Common.{◌≡◌, ℕ, ◌⊎◌, inl, inr, ⊎_elim, true, false, [], ◌∷◌, ◌++◌, Some, None, refl, sym, ap, ◌∙◌, subst, arith, append-nil}
+use Rattle.std.proofs.Common.{◌≡◌, ℕ, ◌⊎◌, inl, inr, ⊎_elim, [], ◌∷◌, ◌++◌, Some, None, refl, sym, ap, ◌∙◌, subst, arith, append-nil}
 use Rattle.std.specs.Prelude.{is_some}
 use mathlib.Core.Logic.{dite}
 use native.Mathlib.Decide.{ℕ_discrete}
@@ -19,6 +19,7 @@ use Rattle.sv_model.proofs.AfterLaws.{continues-itself, number-itself}
 use Rattle.sv_laws.specs.Purges.{IsPurgeStep, ChangesGrabbed, IsStray, ChangesHolds}
 use Rattle.sv_laws.proofs.Registers.{goes-back, total-same}
 use Rattle.sv_laws.proofs.FileChanges.{files-changed}
+use Rattle.sv_laws.proofs.Apart.{false_true, grabbed_gone, grabbed_live, grabbed_pending, live_gone, live_grabbed, live_obsolete, obsolete_gone, pending_gone, pending_grabbed, pending_obsolete}
 
 -- ---- numbers grabbed and given back
 
@@ -41,27 +42,9 @@ module _ (a b : Books) (k : Sound a) (h : ChangesGrabbed a b) where
   -- a number that is Pending or Live before or after stands
   fixed : (s : FileStatus) → (s ≡ Pending) ⊎ (s ≡ Live) → (s ≡ Obsolete) ⊎ ((s ≡ Grabbed) ⊎ (s ≡ Gone)) → ⊥
   fixed s p q = ⊎_elim
-      (λ i. ⊎_elim (λ o. clash₁ (sym i ∙ o)) (⊎_elim (λ o. clash₂ (sym i ∙ o)) (λ o. clash₃ (sym i ∙ o))) q)
-      (λ i. ⊎_elim (λ o. clash₄ (sym i ∙ o)) (⊎_elim (λ o. clash₅ (sym i ∙ o)) (λ o. clash₆ (sym i ∙ o))) q)
+      (λ i. ⊎_elim (λ o. pending_obsolete (sym i ∙ o)) (⊎_elim (λ o. pending_grabbed (sym i ∙ o)) (λ o. pending_gone (sym i ∙ o))) q)
+      (λ i. ⊎_elim (λ o. live_obsolete (sym i ∙ o)) (⊎_elim (λ o. live_grabbed (sym i ∙ o)) (λ o. live_gone (sym i ∙ o))) q)
       p
-    where
-      clash₁ : Pending ≡ Obsolete → ⊥
-      clash₁ e = absurd (cc)
-
-      clash₂ : Pending ≡ Grabbed → ⊥
-      clash₂ e = absurd (cc)
-
-      clash₃ : Pending ≡ Gone → ⊥
-      clash₃ e = absurd (cc)
-
-      clash₄ : Live ≡ Obsolete → ⊥
-      clash₄ e = absurd (cc)
-
-      clash₅ : Live ≡ Grabbed → ⊥
-      clash₅ e = absurd (cc)
-
-      clash₆ : Live ≡ Gone → ⊥
-      clash₆ e = absurd (cc)
 
   after_fixed : (x y : RegisteredFile) → (y ≡ x) ⊎ IsPurgeStep a.files.captured x y
       → (y.status ≡ Pending) ⊎ (y.status ≡ Live) → y ≡ x
@@ -169,12 +152,6 @@ module _ (a b : Books) (k : Sound a) (h : ChangesGrabbed a b) where
     clear = λ f m i. inl i;
     is = refl;
   }))
-    where
-      obsolete_gone : {A : Type 0} → Obsolete ≡ Gone → A
-      obsolete_gone e = absurd (cc)
-
-      grabbed_gone : {A : Type 0} → Grabbed ≡ Gone → A
-      grabbed_gone e = absurd (cc)
 
 -- ---- strays, holds and jobs
 
@@ -236,15 +213,6 @@ strayed a b k n h =
       clear = λ f m i. inl i;
       is = refl;
     }))
-  where
-    false_true : {A : Type 0} → false ≡ true → A
-    false_true e = absurd (cc)
-
-    grabbed_pending : {A : Type 0} → Grabbed ≡ Pending → A
-    grabbed_pending e = absurd (cc)
-
-    grabbed_live : {A : Type 0} → Grabbed ≡ Live → A
-    grabbed_live e = absurd (cc)
 
 pub holds-changed : (a b : Books) (k : Sound a) → ChangesHolds a b → Sound b × After a b
 holds-changed a b k h =

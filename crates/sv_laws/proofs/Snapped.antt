@@ -18,6 +18,7 @@ use Rattle.sv_model.proofs.Registers.{entry_push, entry_change, total-change, go
 use Rattle.sv_model.proofs.AfterLaws.{after-itself, snapshot-itself}
 use Rattle.sv_laws.specs.Snapping.{IsSnapped, IsUnsnapped}
 use Rattle.sv_laws.proofs.Items.{some}
+use Rattle.sv_laws.proofs.Apart.{false_true}
 
 join-within : (files : List FileMeta) (from to : ℕ) → FilesJoin from files to
     → ((i : ℕ) (m : FileMeta) → slice_get files i ≡ Some m → m.from < m.to) → (i : ℕ) (m : FileMeta)
@@ -165,17 +166,14 @@ fewer-stand a k n x at =
       few = omega (arith, h.few, total-change (λ (s : Snapshot). bit s.live) a.snapshots n x y at);
       made = omega (arith, h.made, length-change a.snapshots n y);
       lasts = λ i s e l. ⊎_elim
-          (λ o. gone (sym (ap (λ (z : Snapshot). z.live) o.1) ∙ l))
+          (λ o. false_true (sym (ap (λ (z : Snapshot). z.live) o.1) ∙ l))
           (λ o. h.lasts i s o.1 l)
           (entry_change a.snapshots n i y s e);
       awaited = λ i s e l. ⊎_elim
-          (λ o. gone (sym (ap (λ (z : Snapshot). z.live) o.1) ∙ l))
+          (λ o. false_true (sym (ap (λ (z : Snapshot). z.live) o.1) ∙ l))
           (λ o. h.awaited i s o.1 l)
           (entry_change a.snapshots n i y s e);
     }
-  where
-    gone : {A : Type 0} → false ≡ true → A
-    gone e = absurd (cc)
 
 pub unsnapped : (a b : Books) → Sound a → (n : ℕ) (x : Snapshot) → IsUnsnapped a b n x → Sound b × After a b
 unsnapped a b k n x h =
