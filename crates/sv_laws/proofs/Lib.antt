@@ -12,6 +12,7 @@ pub mod EndsLaws
 pub mod SnapshotLaws
 pub mod InstallNames
 pub mod InstallFits
+pub mod InstallPlaces
 pub mod Installed
 pub mod OptionSet
 pub mod Switched
@@ -23,6 +24,7 @@ pub mod Written
 pub mod FamilyChanges
 pub mod FileChanges
 pub mod Cleaned
+pub mod WhatGoes
 pub mod Purged
 pub mod Captured
 pub mod GivenUp

@@ -16,7 +16,7 @@ use Rattle.sv_model.specs.After.{KeepsMemtable, KeepsList, KeepsVersion, KeepsNu
 use Rattle.sv_model.specs.Books.{files_of}
 use Rattle.sv_model.specs.Described.{IsFileOf, FilesStand, MembersJoin, Describes, LastFits}
 use Rattle.sv_model.specs.Steady.{IsAwaited}
-use Rattle.sv_laws.proofs.Items.{in-cons, in-none}
+use Rattle.sv_laws.proofs.Items.{in-suc, in-cons, in-none}
 use Rattle.sv_laws.proofs.Metas.{captured-goes}
 
 pub join-on : (J : List Write) (M N : List Memtable) → GoesOn KeepsMemtable M N → (f : ℕ) (ms : List ℕ) (from to : ℕ)
@@ -51,6 +51,17 @@ join_in J M f (k ∷ ms) from to m h i = ⊎_elim
     (λ q. (h.0.it, ap (entry M) q ∙ h.0.at, h.0.family_is))
     (λ j. join_in J M f ms (from + length (borne_by k J)) to m h.1 j)
     (in-cons m k ms i)
+
+-- and in another journal in which the members have the same rows
+pub join-still : (J K : List Write) (M : List Memtable) (f : ℕ) (ms : List ℕ) (from to : ℕ)
+    → ((m : ℕ) → In m ms → borne_by m K ≡ borne_by m J) → MembersJoin J M f from ms to → MembersJoin K M f from ms to
+join-still J K M f [] from to same h = h
+join-still J K M f (m ∷ ms) from to same h =
+    let q : length (borne_by m J) ≡ length (borne_by m K) =
+    sym (ap (λ (l : List Write). length l) (same m (record { at = 0; is = refl }))) in
+    let rest : MembersJoin K M f (from + length (borne_by m J)) ms to =
+    join-still J K M f ms (from + length (borne_by m J)) to (λ n i. same n (in-suc n m ms i)) h.1 in
+    (record { it = h.0.it; at = h.0.at; family_is = h.0.family_is; first_is = h.0.first_is; some = omega (arith, h.0.some, q) }, subst (λ n. MembersJoin K M f (from + n) ms to) q rest)
 
 -- ---- files
 pub join_reach : (files : List FileMeta) (from to : ℕ) → FilesJoin from files to → reach_from from files ≡ to

@@ -17,24 +17,15 @@ use Rattle.sv_model.specs.Registers.{entry}
 use Rattle.sv_model.specs.Books.{Books}
 use Rattle.sv_model.specs.After.{KeepsSuper, KeepsMemtable, KeepsList, KeepsVersion, KeepsNumber, KeepsFamily, After, KeepsSnapshot}
 use Rattle.sv_model.specs.Lawful.{Lawful}
-use Rattle.sv_model.specs.Described.{MembersJoin, Describes, BearsFrom, IsTop}
+use Rattle.sv_model.specs.Described.{Describes, BearsFrom, IsTop}
 use Rattle.sv_model.specs.Steady.{Sound, IsCurrent, IsAwaited, IsBorne}
 use Rattle.sv_model.proofs.Registers.{goes-same, entry_le}
 use Rattle.sv_model.proofs.AfterLaws.{continues-itself, super-itself, memtable-itself, list-itself, version-itself, number-itself, family-itself, snapshot-itself}
 use Rattle.sv_laws.specs.Writes.{IsWritten}
-use Rattle.sv_laws.proofs.Items.{some, get_push, in-suc, in-left}
+use Rattle.sv_laws.proofs.Items.{some, get_push, in-left}
 use Rattle.sv_laws.proofs.BorneRows.{borne-other, borne-same, family-same, family-other, rows-stand-any, rows-grow}
+use Rattle.sv_laws.proofs.StillFits.{join-still}
 use Rattle.sv_laws.proofs.OpenFamilies.{of_f, says, ends-at}
-
-join-still : (J K : List Write) (M : List Memtable) (f : ℕ) (ms : List ℕ) (from to : ℕ)
-    → ((m : ℕ) → In m ms → borne_by m K ≡ borne_by m J) → MembersJoin J M f from ms to → MembersJoin K M f from ms to
-join-still J K M f [] from to same h = h
-join-still J K M f (m ∷ ms) from to same h =
-    let q : length (borne_by m J) ≡ length (borne_by m K) =
-    sym (ap (λ (l : List Write). length l) (same m (record { at = 0; is = refl }))) in
-    let rest : MembersJoin K M f (from + length (borne_by m J)) ms to =
-    join-still J K M f ms (from + length (borne_by m J)) to (λ n i. same n (in-suc n m ms i)) h.1 in
-    (record { it = h.0.it; at = h.0.at; family_is = h.0.family_is; first_is = h.0.first_is; some = omega (arith, h.0.some, q) }, subst (λ n. MembersJoin K M f (from + n) ms to) q rest)
 
 module _ (a b : Books) (k : Sound a) (f : ℕ) (w : Write) (h : IsWritten a b f w) where
   law : Lawful a
