@@ -11,8 +11,8 @@ use Rattle.sv_model.specs.Numbers.{IsRegistered}
 use Rattle.sv_model.specs.Described.{IsFileOf}
 use Rattle.sv_model.specs.Steady.{Sound}
 use Rattle.sv_model.proofs.Registers.{entry-new}
-use Rattle.sv_laws.specs.Installs.{IsCompacted}
-use Rattle.sv_laws.specs.Currents.{next_top, live_super}
+use Rattle.sv_laws.specs.NewCurrents.{IsCompacted}
+use Rattle.sv_laws.specs.Installs.{next_top, live_super}
 use Rattle.sv_laws.proofs.Items.{get_one, in-cons, in-none}
 use Rattle.sv_laws.proofs.Growing.{placed-set, placed-same}
 use Rattle.sv_laws.proofs.StillFits.{join_reach, files-at}

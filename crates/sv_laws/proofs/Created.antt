@@ -16,8 +16,8 @@ use Rattle.sv_model.specs.After.{After}
 use Rattle.sv_model.specs.Described.{IsFileOf}
 use Rattle.sv_model.specs.Steady.{Sound}
 use Rattle.sv_model.proofs.Registers.{entry-new}
-use Rattle.sv_laws.specs.Installs.{IsCreated}
-use Rattle.sv_laws.specs.Currents.{next_top, live_super}
+use Rattle.sv_laws.specs.NewCurrents.{IsCreated}
+use Rattle.sv_laws.specs.Installs.{next_top, live_super}
 use Rattle.sv_laws.proofs.Items.{some, every_none, in-none, none_some}
 use Rattle.sv_laws.proofs.Growing.{get_within, placed-push}
 use Rattle.sv_laws.proofs.Installed.{installed}

@@ -14,7 +14,7 @@ use Rattle.sv_model.specs.Numbers.{captures}
 use Rattle.sv_model.specs.Lawful.{Lawful}
 use Rattle.sv_model.specs.Steady.{Sound}
 use Rattle.sv_model.proofs.Registers.{entry_push}
-use Rattle.sv_laws.specs.Currents.{Installs, IsNewMemtable}
+use Rattle.sv_laws.specs.Installs.{Installs, IsNewMemtable}
 use Rattle.sv_laws.proofs.Growing.{grown_entry, placed_get}
 use Rattle.sv_laws.proofs.Settled.{marked-captures}
 

@@ -10,6 +10,7 @@ pub mod StillFits
 pub mod OpenFamilies
 pub mod EndsLaws
 pub mod SnapshotLaws
+pub mod CutLaws
 pub mod InstallNames
 pub mod InstallFits
 pub mod InstallPlaces

@@ -19,7 +19,7 @@ use Rattle.sv_model.specs.Described.{MembersJoin}
 use Rattle.sv_model.specs.Steady.{Sound, IsCurrent}
 use Rattle.sv_model.proofs.Registers.{entry-else, total-change, goes-change}
 use Rattle.sv_model.proofs.AfterLaws.{memtable-itself}
-use Rattle.sv_laws.specs.Currents.{IsOpen}
+use Rattle.sv_laws.specs.Installs.{IsOpen}
 use Rattle.sv_laws.proofs.Items.{some, in-cons, in-suc, in-none, in_append}
 use Rattle.sv_laws.proofs.Metas.{once-at}
 use Rattle.sv_laws.proofs.StillFits.{join-on, join-append, join_reach}

@@ -19,7 +19,7 @@ use Rattle.sv_model.specs.Described.{Describes, IsTop}
 use Rattle.sv_model.specs.Families.{InRange}
 use Rattle.sv_model.specs.Lawful.{Lawful}
 use Rattle.sv_model.specs.Steady.{Sound, IsCurrent}
-use Rattle.sv_laws.specs.Currents.{IsOpen, next_top}
+use Rattle.sv_laws.specs.Installs.{IsOpen, next_top}
 use Rattle.sv_laws.proofs.Items.{some, in-cons, in-suc}
 use Rattle.sv_laws.proofs.StillFits.{files-at, join_in}
 use Rattle.sv_laws.proofs.BorneRows.{unborne, mem-within}

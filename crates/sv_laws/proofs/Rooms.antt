@@ -8,7 +8,7 @@ use Rattle.sv_model.specs.declared.records.SuperVersion.{SuperVersion}
 use Rattle.sv_model.specs.declared.records.Memtable.{Memtable}
 use Rattle.sv_model.specs.Places.{IsLeastFree, live_count}
 use Rattle.sv_model.specs.Named.{super_live, memtable_live}
-use Rattle.sv_laws.specs.Currents.{HasRoom, HasCell}
+use Rattle.sv_laws.specs.Installs.{HasRoom, HasCell}
 
 not-due : (b : Bool) (e : Refusal) (r : Option Refusal) → cond b (Some e) r ≡ None → (b ≡ false) × (r ≡ None)
 not-due true e r q = absurd (cc)

@@ -13,8 +13,8 @@ use Rattle.sv_model.specs.Described.{MembersJoin}
 use Rattle.sv_model.specs.Steady.{Sound}
 use Rattle.sv_model.proofs.Registers.{entry-new, entry_le, goes-push}
 use Rattle.sv_model.proofs.AfterLaws.{memtable-itself}
-use Rattle.sv_laws.specs.Installs.{IsSwitched}
-use Rattle.sv_laws.specs.Currents.{next_top, live_super}
+use Rattle.sv_laws.specs.NewCurrents.{IsSwitched}
+use Rattle.sv_laws.specs.Installs.{next_top, live_super}
 use Rattle.sv_laws.proofs.Items.{some, in_append, in-cons, in-none}
 use Rattle.sv_laws.proofs.StillFits.{join-on, join-append}
 use Rattle.sv_laws.proofs.Installed.{installed}

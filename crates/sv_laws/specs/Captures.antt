@@ -17,7 +17,7 @@ use Rattle.sv_model.specs.Numbers.{NumbersStand, IsRegistered, captures, capture
 use Rattle.sv_model.specs.Snapshots.{IsAwaitedFile}
 use Rattle.sv_model.specs.Steady.{IsCurrent, IsAwaited}
 use Rattle.sv_laws.specs.Settling.{IsSettled}
-use Rattle.sv_laws.specs.Currents.{IsOpen}
+use Rattle.sv_laws.specs.Installs.{IsOpen}
 use Rattle.sv_laws.specs.Snapping.{HasLiveCuts, IsClearOfLive}
 
 -- Only file numbers, what they cover, holds and jobs changed, and each law of them stands. The same numbers are Live.

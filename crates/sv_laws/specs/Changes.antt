@@ -8,7 +8,7 @@ use Rattle.sv_model.specs.declared.records.Snapshot.{Snapshot}
 use Rattle.sv_model.specs.declared.settings.Options.{Options}
 use Rattle.sv_model.specs.Books.{Books}
 use Rattle.sv_laws.specs.Writes.{IsWritten}
-use Rattle.sv_laws.specs.Installs.{IsOptionSet, IsSwitched, IsFlushed, IsCompacted, IsCreated}
+use Rattle.sv_laws.specs.NewCurrents.{IsOptionSet, IsSwitched, IsFlushed, IsCompacted, IsCreated}
 use Rattle.sv_laws.specs.Captures.{IsFlushBegun, IsMergePlanned, IsGivenUp}
 use Rattle.sv_laws.specs.Cleaning.{IsCleaned}
 use Rattle.sv_laws.specs.Families.{IsDropped, IsOpened, IsReleased, IsRetired, IsCurrentEnded}

@@ -1,5 +1,5 @@
 -- Snapshots are taken and released, and what a file keeps for them.
-use Rattle.std.specs.Prelude.{◌≡◌, ◌<◌, ◌++◌, ◌∷◌, ◌⊎◌, ℕ, true, false, List, [], Some, length}
+use Rattle.std.specs.Prelude.{◌≡◌, ◌<◌, ◌≤◌, ◌++◌, ◌∷◌, ◌⊎◌, ℕ, true, false, List, [], Some, length}
 use Rattle.sv_model.specs.declared.writes.Write.{Write}
 use Rattle.sv_model.specs.declared.records.FileMeta.{FileMeta}
 use Rattle.sv_model.specs.declared.records.Snapshot.{Snapshot}
@@ -50,3 +50,7 @@ pub record IsUnsnapped (a b : Books) (n : ℕ) (x : Snapshot) : Type 0 where
   pub at : entry a.snapshots n ≡ Some x
   pub live : x.live ≡ true
   pub is : b ≡ record a { snapshots = change a.snapshots n (record x { live = false }) }
+
+-- Snapshots were taken in the order of their places in the journal.
+abbrev pub Ascend : List Snapshot → Type 0
+Ascend snapshots = (n m : ℕ) (s t : Snapshot) → entry snapshots n ≡ Some s → entry snapshots m ≡ Some t → n ≤ m → s.at ≤ t.at
