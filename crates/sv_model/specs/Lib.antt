@@ -8,6 +8,7 @@ pub mod Lists
 pub mod Moments
 pub mod Named
 pub mod Names
+pub mod Numbers
 pub mod Order
 pub mod Places
 pub mod Ranges
