@@ -6,6 +6,7 @@ pub mod Families
 pub mod Faults
 pub mod Files
 pub mod Flat
+pub mod HeldFiles
 pub mod Journal
 pub mod Lawful
 pub mod Lists
@@ -23,4 +24,6 @@ pub mod Registers
 pub mod Snapshots
 pub mod Steady
 pub mod Summaries
+pub mod TableText
+pub mod TableTextFields
 pub mod Together
