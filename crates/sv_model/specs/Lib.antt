@@ -1,5 +1,6 @@
 pub mod After
 pub mod Books
+pub mod Cells
 pub mod Counts
 pub mod Described
 pub mod Families
