@@ -90,7 +90,14 @@ pub record Flushes (books : Books) (earlier : List Answered) (number from to fam
   pub range : from < to
   pub later : seen earlier ≤ to
   pub newer : newest_file earlier < number
-  pub output : IsOutput books family (record { number = number; from = from; to = to; bottom = false })
+  pub cuts : List ℕ
+  pub output :
+    IsOutput books family (record {
+      number = number;
+      from = from;
+      to = to;
+      bottom = record { last = false; cuts = cuts };
+    })
 
 -- what an answer that is no refusal says of the books
 abbrev pub Shows : Bool → Books → ℕ → List Answered → Command → Reply → Type 0
