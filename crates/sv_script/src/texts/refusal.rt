@@ -65,9 +65,9 @@ fn push_fields(out: &mut Vec<u8>, refusal: Refusal) -> Result<(), OutOfMemory>
     }
 }
 
-/// Appends the refusal.
+// Appends the refusal.
 #[tactic(auto, unfolding(crate::specs::RefusalTexts::refusal_text))]
-pub fn push_refusal(out: &mut Vec<u8>, refusal: Refusal) -> Result<(), OutOfMemory>
+pub(crate) fn push_refusal(out: &mut Vec<u8>, refusal: Refusal) -> Result<(), OutOfMemory>
     ensures { OnOk result (out.new.items ≡ out.old.items ++ refusal_text refusal) }
 {
     push_bytes(out, refusal_head(refusal))?;
