@@ -93,7 +93,7 @@ pub record Gets (told : Bool) (books : Books) (earlier : List Answered)
   pub looks : LooksAt told books family key found cut serial
 
 -- A flush: the file covers at least one write, and all that the lane had seen; its number is above each that the
--- lane was shown. Something may lie below the file, so its deletes stay; which snapshots it kept rows for is open.
+-- lane was shown. The file keeps its deletes, since something may lie below it, and may have cuts.
 pub record Flushes (books : Books) (earlier : List Answered) (number from to family : ℕ) : Type 0 where
   pub range : from < to
   pub later : seen earlier ≤ to

@@ -47,7 +47,7 @@ pub enum Reply {
     Hold(u32),
     /// The lane's count of holds after it.
     Unhold(u32),
-    /// The files of the current Versions of the families that are not dropped.
+    /// The files of the current Versions of the families that are not dropped, ascending.
     Live(Items<FileNumber>),
     /// The files that were removed, ascending.
     Purge(Items<FileNumber>),

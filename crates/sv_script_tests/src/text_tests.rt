@@ -140,7 +140,10 @@ const REFUSALS: [(Refusal, &str); 30] = [
     (Refusal::TooManySnapshots, "7 refused 26 TooManySnapshots\n"),
     (Refusal::NoSnapshot, "7 refused 27 NoSnapshot\n"),
     (Refusal::NoIterator, "7 refused 28 NoIterator\n"),
-    (Refusal::NoHandle { index: 16 }, "7 refused 29 NoHandle 16\n"),
+    (
+        Refusal::NoHandle { index: 16 },
+        "7 refused 29 NoHandle 16\n",
+    ),
     (Refusal::OutOfMemory, "7 no memory\n"),
 ];
 
