@@ -1,4 +1,0 @@
-mod Books
-mod KeptLemmas
-mod LawLemmas
-mod Search

@@ -1,8 +1,10 @@
+pub mod AfterLaws
 pub mod Freed
+pub mod KeyOrder
 pub mod Lists
 pub mod Lowering
 pub mod PlaceLaws
 pub mod Ranges
 pub mod Refusing
 pub mod Registers
-pub mod KeyOrder
+pub mod SearchLaws
