@@ -1,6 +1,7 @@
 pub mod After
 pub mod Books
 pub mod Counts
+pub mod Families
 pub mod Faults
 pub mod Flat
 pub mod Journal
