@@ -24,3 +24,5 @@ pub mod Snapshots
 pub mod Steady
 pub mod Summaries
 pub mod Together
+pub mod TableText
+pub mod TableTextFields

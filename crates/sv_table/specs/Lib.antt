@@ -1,3 +1,4 @@
 pub mod Decoding
-pub mod Merging
+pub mod Lookups
 pub mod Reading
+pub mod Views
