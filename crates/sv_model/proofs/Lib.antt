@@ -6,6 +6,5 @@ pub mod PlaceLaws
 pub mod Ranges
 pub mod Refusing
 pub mod Registers
-pub mod SearchLaws
 pub mod KeyOrder
 pub mod SearchLaws

@@ -23,6 +23,6 @@ pub mod Registers
 pub mod Snapshots
 pub mod Steady
 pub mod Summaries
-pub mod Together
 pub mod TableText
 pub mod TableTextFields
+pub mod Together

@@ -38,7 +38,7 @@ fn value_of(alloc: Global, bytes: &[u8]) -> Result<Value, OutOfMemory>
 }
 
 fn op_of(alloc: Global, hit: Hit<'_>) -> Result<Op, OutOfMemory>
-    requires { FitsMemory (op_is hit.entry) }
+    requires { FitsMemory (op_is hit) }
     ensures { IfOk result (λ op. op ≡ op_is hit.entry) }
 {
     match hit {
@@ -51,7 +51,7 @@ fn op_of(alloc: Global, hit: Hit<'_>) -> Result<Op, OutOfMemory>
 fn kept_of(alloc: Global, header: &Header, row: RowAt<'_>) -> Result<Kept, OutOfMemory>
     requires least { 1 ≤ length row.key.now }
     requires greatest { length row.key.now ≤ 64 }
-    requires op { FitsMemory (op_is row.entry.op) }
+    requires op { FitsMemory (op_is row.op) }
     requires number { row.number ≤ length header.now.bottom.cuts }
     ensures { IfOk result (λ kept. kept ≡ kept_of (header_is header.now) (entry_is row.entry)) }
 {

@@ -80,12 +80,7 @@ fn some_cuts_at(from: u64, to: u64, bytes: &[u8]) -> Result<(Cuts, &[u8]), Stuck
 }
 
 #[tactic(auto, unfolding(crate::specs::Reading::bottom_at))]
-fn bottom_at(
-    format: Format,
-    from: u64,
-    to: u64,
-    bytes: &[u8],
-) -> Result<(Bottom, &[u8]), Stuck>
+fn bottom_at(format: Format, from: u64, to: u64, bytes: &[u8]) -> Result<(Bottom, &[u8]), Stuck>
     ensures { Gives (λ x. (x.0, x.1.now)) result (bottom_at (format_is format) from to bytes.now) }
 {
     let (flag, after_flag) = byte_at(bytes)?;
@@ -97,8 +92,10 @@ fn bottom_at(
         let cuts = Cuts::none();
         return Ok((Bottom { last, cuts }, after_flag));
     }
-    let (cuts, rest) = some_cuts_at(from, to, after_flag)?;
-    Ok((Bottom { last, cuts }, rest))
+    match some_cuts_at(from, to, after_flag) {
+        Ok((cuts, rest)) => Ok((Bottom { last, cuts }, rest)),
+        Err(stuck) => Err(stuck),
+    }
 }
 
 fn is_count(from: u64, to: u64, last: bool, count: u32) -> bool
@@ -114,7 +111,10 @@ pub(crate) fn header_at(bytes: &[u8]) -> Result<(Header, &[u8]), Stuck>
 {
     let (format, after_magic) = format_at(bytes)?;
     let ((from, to), after_range) = range_at(after_magic)?;
-    let (bottom, after_bottom) = bottom_at(format, from, to, after_range)?;
+    let (bottom, after_bottom) = match bottom_at(format, from, to, after_range) {
+        Ok(read) => read,
+        Err(stuck) => return Err(stuck),
+    };
     let (count, rest) = u32_at(after_bottom)?;
     if !is_count(from, to, bottom.last, count) {
         return Err(Stuck {

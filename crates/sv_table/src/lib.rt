@@ -1,7 +1,7 @@
 //! Table files: their bytes in three formats, and looking up a key in them.
 #![tactic(auto)]
 
-//mod checked;
+mod checked;
 mod decoding;
 mod encoding;
 mod faults;
@@ -12,10 +12,11 @@ mod heads;
 mod hits;
 mod laws;
 mod lookups;
+mod places;
 mod rows;
 mod walks;
 
-//pub use checked::Checked;
+pub use checked::Checked;
 pub use decoding::decode;
 pub use encoding::encode;
 pub use faults::{Bad, DecodeError};

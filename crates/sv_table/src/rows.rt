@@ -94,11 +94,7 @@ fn key_fits(shape: Shape, seen: Seen<'_>, key: &[u8]) -> bool
 }
 
 #[tactic(auto, unfolding(crate::specs::Reading::key_at))]
-fn key_at<'a>(
-    shape: Shape,
-    seen: Seen<'_>,
-    bytes: &'a [u8],
-) -> Result<(&'a [u8], &'a [u8]), Stuck>
+fn key_at<'a>(shape: Shape, seen: Seen<'_>, bytes: &'a [u8]) -> Result<(&'a [u8], &'a [u8]), Stuck>
     ensures { Gives (λ x. (x.0.now, x.1.now)) result (key_at (shape_is shape) (seen_is seen.entry) bytes.now) }
 {
     let (len, after_len) = byte_at(bytes)?;

@@ -66,7 +66,10 @@ fn tail_at<'a>(
 pub(crate) fn file_at(bytes: &[u8]) -> Result<(Header, &[u8]), Stuck>
     ensures { Gives (λ x. (header_is x.0, x.1.now)) result (file_at bytes.now) }
 {
-    let (header, rows) = header_at(bytes)?;
+    let (header, rows) = match header_at(bytes) {
+        Ok(read) => read,
+        Err(stuck) => return Err(stuck),
+    };
     let (seen, after_rows) = walk(&header, rows)?;
     let rest = tail_at(header.format, seen.first, seen.key, after_rows)?;
     if !rest.is_empty() {
