@@ -88,14 +88,16 @@ impl Numbers {
         ensures err { OnErr result (self.new ≡ self.old) }
     {
         let number = file.number.0;
-        let (at, waiting) = (self.files.len(), self.obsolete.len());
+        let ready = is_obsolete(file.status);
+        let at = self.files.len();
+        let waiting = self.obsolete.len();
         self.files.reserve(1)?;
         self.obsolete.reserve(at + 1 - waiting)?;
         if self.places.insert(number, at).is_err() {
             return Err(OutOfMemory);
         }
         self.files.push_reserved(file);
-        queue::set(&mut self.obsolete, number, false, is_obsolete(file.status));
+        queue::set(&mut self.obsolete, number, false, ready);
         Ok(())
     }
 
