@@ -1,3 +1,4 @@
+pub mod AfterLaws
 pub mod Freed
 pub mod Lists
 pub mod Lowering

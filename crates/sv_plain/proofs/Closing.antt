@@ -9,15 +9,16 @@ use Rattle.sv_model.specs.declared.FileStatus.TheVariants.{Pending, Live, Obsole
 use Rattle.sv_model.specs.declared.RegisteredFile.{RegisteredFile}
 use Rattle.sv_model.specs.declared.Top.{Top}
 use Rattle.sv_model.specs.declared.Version.{Version}
-use Rattle.sv_model.specs.After.{After, KeepsNumber}
+use Rattle.sv_plain.specs.Follows.{Follows}
+use Rattle.sv_model.specs.After.{KeepsNumber}
 use Rattle.sv_model.specs.Lists.{In}
 use Rattle.sv_model.specs.Named.{numbers_of}
 use Rattle.sv_model.specs.Registers.{entry, GoesOn}
 use Rattle.sv_model.specs.Summaries.{obsolete_of}
 use Rattle.sv_model.specs.Books.{Books, FileRegister, files_of}
 use Rattle.sv_model.proofs.Registers.{entry_le}
-use Rattle.sv_dir.specs.Files.{Files, file_of, same_name}
-use Rattle.sv_dir.specs.TableNames.{file_name}
+use Rattle.sv_model.specs.Files.{Files, file_of, file_name}
+use Rattle.sv_dir.specs.Files.{same_name}
 use Rattle.sv_dir.proofs.Laws.{same_name-file_name}
 use Rattle.sv_memtable.specs.Cell.{Cell}
 use Rattle.sv_files.specs.Calls.{IsRegistered}
@@ -141,7 +142,7 @@ closed b mid reach base serial place list version active its files h = record {
   files = still_live b mid reach base serial place list version active its files h;
 }
 
-pub after_close : (b mid : Books) (reach base serial place list version : ℕ) (active : Cell) (its : List Immutable) (files : FileRegister) → Closing b mid reach base serial place list version active its files → After b (record mid { files = files })
+pub after_close : (b mid : Books) (reach base serial place list version : ℕ) (active : Cell) (its : List Immutable) (files : FileRegister) → Closing b mid reach base serial place list version active its files → Follows b (record mid { files = files })
 after_close b mid reach base serial place list version active its files h =
     let a = h.emptied.after in
     record {

@@ -7,7 +7,8 @@ use Rattle.sv_model.specs.declared.RegisteredFile.{RegisteredFile}
 use Rattle.sv_model.specs.declared.FileStatus.{FileStatus}
 use Rattle.sv_model.specs.declared.FileStatus.TheVariants.{Pending, Live, Obsolete, Gone}
 use Rattle.sv_model.specs.declared.FileMeta.{FileMeta}
-use Rattle.sv_model.specs.After.{After, KeepsSuper, KeepsMemtable, KeepsList, KeepsVersion, KeepsNumber}
+use Rattle.sv_plain.specs.Follows.{Follows}
+use Rattle.sv_model.specs.After.{KeepsSuper, KeepsMemtable, KeepsList, KeepsVersion, KeepsNumber}
 use Rattle.sv_model.specs.Books.{Books, FileRegister}
 use Rattle.sv_model.specs.Lists.{In}
 use Rattle.sv_model.specs.Named.{numbers_of}
@@ -104,7 +105,7 @@ settled_goes old new number live is =
     apart e = absurd (cc)
 
 -- books with other numbers come after
-pub after_files : (a : Books) (files : FileRegister) → a.tops ≡ top_of true a ∷ [] → GoesOn KeepsNumber a.files.numbers files.numbers → a.files.next ≤ files.next → After a (record a { files = files })
+pub after_files : (a : Books) (files : FileRegister) → a.tops ≡ top_of true a ∷ [] → GoesOn KeepsNumber a.files.numbers files.numbers → a.files.next ≤ files.next → Follows a (record a { files = files })
 after_files a files at numbers next = record {
   journal = continues_itself a.journal;
   supers = goes-same KeepsSuper a.supers super_itself;
@@ -118,7 +119,7 @@ after_files a files at numbers next = record {
   tops = tops_go a (record a { files = files }) true at at (omega arith);
 }
 
-pub after_settled : (a : Books) (files : FileRegister) (number : ℕ) (live : Bool) → a.tops ≡ top_of true a ∷ [] → IsSettled number live a.files files → After a (record a { files = files })
+pub after_settled : (a : Books) (files : FileRegister) (number : ℕ) (live : Bool) → a.tops ≡ top_of true a ∷ [] → IsSettled number live a.files files → Follows a (record a { files = files })
 after_settled a files number live at is =
     after_files a files at (settled_goes a.files files number live is) (let e = ap (λ (r : FileRegister). r.next) is.rest in omega (arith, e))
 

@@ -13,6 +13,7 @@ pub mod Lookups
 pub mod Outputs
 pub mod Ended
 pub mod Flushing
+pub mod Follows
 pub mod Prepared
 pub mod Emptied
 pub mod Removed

@@ -1,7 +1,7 @@
 -- What a switch does to the books.
 use Rattle.std.specs.Prelude.{◌≡◌, ◌+◌, false, length}
 use Rattle.sv_model.specs.Flat.{IsFlatOf}
-use Rattle.sv_model.specs.After.{After}
+use Rattle.sv_plain.specs.Follows.{Follows}
 use Rattle.sv_model.specs.Books.{Books}
 use Rattle.sv_plain.specs.declared.immutables.Immutable.{Immutable}
 use Rattle.sv_plain.specs.declared.parts.Parts.{Parts}
@@ -24,4 +24,4 @@ pub record IsSwitched (old new : Books) : Type 0 where
   pub supers : length new.supers ≡ length old.supers + 1
   pub waits : immutable_count new ≡ immutable_count old + 1
   pub empty : active_rows new ≡ 0
-  pub after : After old new
+  pub after : Follows old new

@@ -1,7 +1,7 @@
 // The end of a flush: its file is Obsolete, or the last Version has it.
 ghost use Rattle.std.specs.Prelude.{◌≡◌, ◌≤◌, ◌++◌, ◌∷◌, [], ℕ, IfOk, IfErr, OnOk, OnErr, None, length};
 ghost use Rattle.sv_model.specs.declared.FileStatus.TheVariants.{Live, Obsolete};
-ghost use Rattle.sv_model.specs.After.{After};
+ghost use Rattle.sv_plain.specs.Follows.{Follows};
 ghost use Rattle.sv_model.specs.Faults.{RoseBy};
 ghost use Rattle.sv_model.specs.Refusals.{Refuses};
 ghost use Rattle.sv_registry.specs.Calls.{make_fault};
@@ -28,7 +28,7 @@ impl Parts {
         ensures rest { books_of self.new ≡ record (books_of self.old) { files = self.new.files } }
         ensures journal { self.new.journal ≡ self.old.journal }
         ensures metas { self.new.metas ≡ self.old.metas }
-        ensures after { After (books_of self.old) (books_of self.new) }
+        ensures after { Follows (books_of self.old) (books_of self.new) }
     {
         self.files.settle(file.number, false);
     }
@@ -64,7 +64,7 @@ impl Parts {
         ensures flushed { OnOk result (immutable_count (books_of self.new) ≡ 0) }
         ensures stopped { OnErr result ((outputs : Outputs self.old file.now) → SettlesAs (books_of self.old) (books_of self.new) outputs.before file.now Obsolete) }
         ensures kept { OnErr result (books_of self.new ≡ record (books_of self.old) { files = self.new.files }) }
-        ensures after { After (books_of self.old) (books_of self.new) }
+        ensures after { Follows (books_of self.old) (books_of self.new) }
     {
         let count = self.immutables.len() as u8;
         match make_output(
@@ -99,7 +99,7 @@ impl Parts {
         ensures versions { OnErr result (self.new.versions ≡ self.old.versions) }
         ensures journal { self.new.journal ≡ self.old.journal }
         ensures numbers { (outputs : Outputs self.old file) → IsNumbered outputs.before (books_of self.new) file }
-        ensures after { After (books_of self.old) (books_of self.new) }
+        ensures after { Follows (books_of self.old) (books_of self.new) }
         ensures runs { Runs self.new }
         ensures holds { Both (λ before after. Holds (books_of self.old) before → Holds (books_of self.new) after) (D.files dir.old) (D.files dir.new) }
         ensures others { Both (OthersStay self.new.files.numbers) (D.files dir.old) (D.files dir.new) }
@@ -127,7 +127,7 @@ impl Parts {
         ensures stopped { IfErr result (IsStopped (books_of self.old) (books_of self.new)) }
         ensures moment { IfErr result (FlushMoment (books_of self.new)) }
         ensures journal { self.new.journal ≡ self.old.journal }
-        ensures after { After (books_of self.old) (books_of self.new) }
+        ensures after { Follows (books_of self.old) (books_of self.new) }
         ensures runs { Runs self.new }
         ensures numbered { (first : ℕ) → IsNumberedFrom first (books_of self.old) → IsNumberedFrom first (books_of self.new) }
         ensures holds { Both (λ before after. Holds (books_of self.old) before → Holds (books_of self.new) after) (D.files dir.old) (D.files dir.new) }

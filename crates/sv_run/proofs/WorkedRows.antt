@@ -62,6 +62,7 @@ books = record {
   metas = file ∷ [];
   families = default_family ∷ [];
   tops = top_from false 3 2 ∷ [];
+  snapshots = [];
 }
 
 looks_put : look books.journal 0 1 a ≡ Some (codes "1")

@@ -1,7 +1,7 @@
 -- The number was captured for the file of all that waits.
 use Rattle.std.proofs.Common.{◌∷◌, ◌++◌, [], List, refl, sym, ap, subst, ◌∙◌}
 use Rattle.sv_model.specs.declared.FileMeta.{FileMeta}
-use Rattle.sv_model.specs.After.{After}
+use Rattle.sv_plain.specs.Follows.{Follows}
 use Rattle.sv_model.specs.Books.{FileRegister}
 use Rattle.sv_plain.specs.Views.{books_of}
 use Rattle.sv_plain.proofs.Planning.{after_capture, join_some}
@@ -34,6 +34,6 @@ returns-clause-began c = record {
 
 pub returns-clause-after : goal.returns-clause-after
 returns-clause-after c =
-    subst (λ (z : FileRegister). After (books_of c.args.self.now) (record (books_of c.args.self.now) { files = z; metas = c.push_reserved.new.self.items })) (sym c.in_ok-number.ensures.captured.1)
+    subst (λ (z : FileRegister). Follows (books_of c.args.self.now) (record (books_of c.args.self.now) { files = z; metas = c.push_reserved.new.self.items })) (sym c.in_ok-number.ensures.captured.1)
     (after_capture (books_of c.args.self.now) c.push_reserved.new.self.items c.file_over.result c.requires.runs.stands.tops
     (c.push_reserved.ensures.items ∙ ap (λ (z : List FileMeta). z ++ c.file_over.result ∷ []) c.reserve.ensures.items))
