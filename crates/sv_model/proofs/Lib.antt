@@ -8,3 +8,5 @@ pub mod Ranges
 pub mod Refusing
 pub mod Registers
 pub mod SearchLaws
+pub mod FlatEnds
+pub mod FlatFirsts
