@@ -1,4 +1,6 @@
 pub mod AfterLaws
+pub mod FlatEnds
+pub mod FlatFirsts
 pub mod Freed
 pub mod KeyOrder
 pub mod Lists
@@ -8,5 +10,3 @@ pub mod Ranges
 pub mod Refusing
 pub mod Registers
 pub mod SearchLaws
-pub mod FlatEnds
-pub mod FlatFirsts
