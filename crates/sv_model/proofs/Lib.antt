@@ -10,3 +10,5 @@ pub mod KeyOrder
 pub mod SearchLaws
 pub mod FlatEnds
 pub mod FlatFirsts
+pub mod FlatReads
+pub mod FlatKeys
