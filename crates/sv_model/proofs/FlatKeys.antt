@@ -1,5 +1,5 @@
 -- Rows by key are known by the rows of each key.
-use Rattle.std.proofs.Common.{◌≡◌, ℕ, zero, suc, ◌<◌, ◌≤◌, ◌+◌, inl, inr, Bool, true, false, cond, ◌&&◌, ◌||◌, nat_lt, List, [], ◌∷◌, length, refl, sym, ap, subst, ◌∙◌, arith}
+use Rattle.std.proofs.Common.{◌≡◌, ℕ, suc, ◌<◌, ◌≤◌, inl, inr, Bool, true, false, cond, ◌&&◌, ◌||◌, nat_lt, List, [], ◌∷◌, length, refl, sym, ap, subst, ◌∙◌, arith}
 use Rattle.std.specs.List.{filter, AllByRecursion}
 use Rattle.std.proofs.lemmas.Bool.{cases_Bool, or_cases, and_parts, and_from, or_left, lt-ltb, both_ways}
 use Rattle.sv_model.specs.declared.writes.Kept.{Kept}
@@ -23,8 +23,8 @@ before_rises : (a b : Kept) → comes_before key_of_kept end_of_kept a b ≡ tru
 before_rises a b h = elim (or_cases (is_below a.row.key b.row.key) (same_key a.row.key b.row.key && nat_lt b.end a.end) h) [
   | inl low ↦ not_back a.row.key b.row.key low
   | inr both ↦
-    let e = same_eq a.row.key b.row.key (and_parts (same_key a.row.key b.row.key) (nat_lt b.end a.end) both).0 in
-    subst (λ (k : List ℕ). is_below k a.row.key ≡ false) e (below_self a.row.key)
+      let e = same_eq a.row.key b.row.key (and_parts (same_key a.row.key b.row.key) (nat_lt b.end a.end) both).0 in
+      subst (λ (k : List ℕ). is_below k a.row.key ≡ false) e (below_self a.row.key)
 ]
 
 ordered_rise : (last : Kept) (rows : List Kept) → OrderedFrom key_of_kept end_of_kept last rows → RisesFrom key_of_kept last rows
@@ -71,10 +71,10 @@ same_heads : (x y : Kept) (xs ys : List Kept) → RisesFrom key_of_kept x xs →
 same_heads x y xs ys up down h = elim (cases_Bool (same_key x.row.key y.row.key)) [
   | inl same ↦ heads x y (of_key x.row.key xs) (of_key x.row.key ys) (sym (key_own x xs) ∙ h x.row.key ∙ key_yes x.row.key y ys same)
   | inr other ↦
-    let back : same_key y.row.key x.row.key ≡ false = not_true (same_key y.row.key x.row.key) (λ t. both_ways (same_key x.row.key y.row.key) other (same_yes x.row.key y.row.key (sym (same_eq y.row.key x.row.key t)))) in
-    let left : is_below x.row.key y.row.key ≡ false = later_not_below x.row.key y ys x (of_key x.row.key xs) down (sym (key_no x.row.key y ys other) ∙ sym (h x.row.key) ∙ key_own x xs) in
-    let right : is_below y.row.key x.row.key ≡ false = later_not_below y.row.key x xs y (of_key y.row.key ys) up (sym (key_no y.row.key x xs back) ∙ h y.row.key ∙ key_own y ys) in
-    absurd (both_ways (is_below y.row.key x.row.key) right (above y.row.key x.row.key left back))
+      let back : same_key y.row.key x.row.key ≡ false = not_true (same_key y.row.key x.row.key) (λ t. both_ways (same_key x.row.key y.row.key) other (same_yes x.row.key y.row.key (sym (same_eq y.row.key x.row.key t)))) in
+      let left : is_below x.row.key y.row.key ≡ false = later_not_below x.row.key y ys x (of_key x.row.key xs) down (sym (key_no x.row.key y ys other) ∙ sym (h x.row.key) ∙ key_own x xs) in
+      let right : is_below y.row.key x.row.key ≡ false = later_not_below y.row.key x xs y (of_key y.row.key ys) up (sym (key_no y.row.key x xs back) ∙ h y.row.key ∙ key_own y ys) in
+      absurd (both_ways (is_below y.row.key x.row.key) right (above y.row.key x.row.key left back))
 ]
 
 same_tails : (b : Bool) (x : Kept) (xs ys : List Kept) → cond b (x ∷ xs) xs ≡ cond b (x ∷ ys) ys → xs ≡ ys
@@ -89,7 +89,7 @@ one_list (x ∷ xs) [] up down h = absurd (no_cons x (of_key x.row.key xs) (sym 
 one_list (x ∷ xs) (y ∷ ys) up down h =
     let head : x ≡ y = same_heads x y xs ys up down h in
     let rest : xs ≡ ys = one_list xs ys (rises_rest x xs up) (rises_rest y ys down)
-      (λ key. same_tails (same_key key x.row.key) x (of_key key xs) (of_key key ys) (h key ∙ ap (λ (z : Kept). of_key key (z ∷ ys)) (sym head))) in
+    (λ key. same_tails (same_key key x.row.key) x (of_key key xs) (of_key key ys) (h key ∙ ap (λ (z : Kept). of_key key (z ∷ ys)) (sym head))) in
     (λ i. head i ∷ rest i)
 
 all_cond : (P : Kept → Type 0) (b : Bool) (r : Kept) (rows : List Kept) → AllByRecursion P (cond b (r ∷ rows) rows) → AllByRecursion P rows
@@ -129,8 +129,8 @@ or_right false y h = h
 next_before : (x y : Kept) (rows : List Kept) → is_below y.row.key x.row.key ≡ false → Drops (of_key x.row.key (x ∷ y ∷ rows)) → comes_before key_of_kept end_of_kept x y ≡ true
 next_before x y rows up down = elim (cases_Bool (same_key x.row.key y.row.key)) [
   | inl same ↦
-    let both : Drops (x ∷ y ∷ of_key x.row.key rows) = subst Drops (key_own x (y ∷ rows) ∙ ap (λ (l : List Kept). x ∷ l) (key_yes x.row.key y rows same)) down in
-    or_right (is_below x.row.key y.row.key) (same_key x.row.key y.row.key && nat_lt y.end x.end) (and_from (same_key x.row.key y.row.key) (nat_lt y.end x.end) same (lt-ltb y.end x.end both.0))
+      let both : Drops (x ∷ y ∷ of_key x.row.key rows) = subst Drops (key_own x (y ∷ rows) ∙ ap (λ (l : List Kept). x ∷ l) (key_yes x.row.key y rows same)) down in
+      or_right (is_below x.row.key y.row.key) (same_key x.row.key y.row.key && nat_lt y.end x.end) (and_from (same_key x.row.key y.row.key) (nat_lt y.end x.end) same (lt-ltb y.end x.end both.0))
   | inr other ↦ or_left (is_below x.row.key y.row.key) (same_key x.row.key y.row.key && nat_lt y.end x.end) (above x.row.key y.row.key up other)
 ]
 
@@ -147,7 +147,6 @@ ordered_of_keys (r ∷ rows) up down = ordered_from r rows up down
 -- ---- how many
 
 module _ {A B : Type 0} (key : A → List ℕ) (own : B → List ℕ) where
-
   abbrev of_left : List ℕ → List A → List A
   of_left k xs = filter (λ x. same_key k (key x)) xs
 

@@ -1,12 +1,11 @@
 -- What a flat says of reads at a cut that its range is clear of: the newest op of the key among the writes up to the
 -- cut; where nothing lies below, its value.
-use Rattle.std.proofs.Common.{◌≡◌, ℕ, zero, suc, ◌<◌, ◌≤◌, ◌+◌, ◌-◌, ◌⊎◌, inl, inr, Bool, true, false, cond, ◌&&◌, eqb, nat_le, List, [], ◌∷◌, ◌++◌, length, map, reverse, take, drop, Option, Some, None, refl, sym, ap, subst, ◌∙◌, arith}
+use Rattle.std.proofs.Common.{◌≡◌, ℕ, zero, suc, ◌<◌, ◌≤◌, ◌+◌, ◌-◌, inl, inr, Bool, true, false, cond, ◌&&◌, nat_le, List, [], ◌∷◌, ◌++◌, length, map, reverse, take, Option, Some, None, refl, sym, ap, subst, ◌∙◌, arith}
 use Rattle.std.specs.Option.{option_map, option_and_then, option_or}
 use Rattle.std.specs.List.{find, filter, AllByRecursion}
-use Rattle.std.proofs.lemmas.Bool.{cases_Bool, eqb-true, leb-true, leb-false, le-leb, lt-leb, and_parts, both_ways}
+use Rattle.std.proofs.lemmas.Bool.{cases_Bool, eqb-true, leb-true, leb-false, lt-leb, and_parts}
 use Rattle.std.proofs.lemmas.List.{reverse-append}
 use Rattle.std.proofs.lemmas.List.Folds.{find-append}
-use Rattle.sv_model.specs.declared.writes.Write.{Write}
 use Rattle.sv_model.specs.declared.writes.Row.{Row}
 use Rattle.sv_model.specs.declared.writes.Op.{Op}
 use Rattle.sv_model.specs.declared.writes.Op.TheVariants.{Put, Delete}
@@ -116,11 +115,10 @@ firsts_within cut last (r ∷ rows) above = at (is_last last r.end) refl (nat_le
 
 -- ---- the newest write up to a cut
 
-abbrev upto : List ℕ → ℕ → Numbered → Bool
+abbrev pub upto : List ℕ → ℕ → Numbered → Bool
 upto key cut n = same_key key n.row.key && nat_le n.number cut
 
 module _ (from to : ℕ) (cuts : List ℕ) (are : CutsFrom from cuts to) (cut : ℕ) (clear : IsClearIn from to cuts cut) (key : List ℕ) where
-
   marks_within : (high : ℕ) (writes : List Numbered) → high ≤ to → NumbersFall from high writes → find (within cut) (marks (ends_of cuts to) key writes) ≡ option_map (mark (ends_of cuts to)) (find (upto key cut) writes)
   marks_within high [] most fall = refl
   marks_within high (n ∷ writes) most fall =
@@ -142,7 +140,7 @@ module _ (from to : ℕ) (cuts : List ℕ) (are : CutsFrom from cuts to) (cut : 
           ∙ sym (ap (λ (b : Bool). option_map (mark ends) (cond b (Some n) (find (upto key cut) writes))) is)
 
 -- the row that was found, without its number
-abbrev row_at : Option Numbered → Option Row
+abbrev pub row_at : Option Numbered → Option Row
 row_at found = option_map (λ n. n.row) found
 
 or_row : (a b : Option Numbered) → row_at (option_or a b) ≡ option_or (row_at a) (row_at b)
@@ -178,20 +176,20 @@ pub newest_upto : (key : List ℕ) (cut before : ℕ) (writes : List Row) → ro
 newest_upto key cut before [] = ap (newest_row key) (sym (take_none (cut - before)))
 newest_upto key cut before (w ∷ writes) = elim (cases_Bool (nat_le (suc before) cut)) [
   | inl low ↦
-    let n : Numbered = record { number = suc before; row = w } in
-    let some : cut - before ≡ suc (cut - suc before) = let h = leb-true (suc before) cut low in omega (arith, h) in
-    ap (λ (l : List Numbered). row_at (find (upto key cut) l)) (reverse-append (n ∷ []) (numbered_after (suc before) writes))
-    ∙ ap row_at (find-append (upto key cut) (reverse (numbered_after (suc before) writes)) (n ∷ []))
-    ∙ or_row (find (upto key cut) (reverse (numbered_after (suc before) writes))) (find (upto key cut) (n ∷ []))
-    ∙ (λ i. option_or (newest_upto key cut (suc before) writes i) (row_at (cond (same_key key w.key && low i) (Some n) None)))
-    ∙ ap (option_or (newest_row key (take (cut - suc before) writes))) (one (same_key key w.key) n)
-    ∙ sym (newest_cons key w (take (cut - suc before) writes))
-    ∙ ap (λ (k : ℕ). newest_row key (take k (w ∷ writes))) (sym some)
+      let n : Numbered = record { number = suc before; row = w } in
+      let some : cut - before ≡ suc (cut - suc before) = let h = leb-true (suc before) cut low in omega (arith, h) in
+      ap (λ (l : List Numbered). row_at (find (upto key cut) l)) (reverse-append (n ∷ []) (numbered_after (suc before) writes))
+      ∙ ap row_at (find-append (upto key cut) (reverse (numbered_after (suc before) writes)) (n ∷ []))
+      ∙ or_row (find (upto key cut) (reverse (numbered_after (suc before) writes))) (find (upto key cut) (n ∷ []))
+      ∙ (λ i. option_or (newest_upto key cut (suc before) writes i) (row_at (cond (same_key key w.key && low i) (Some n) None)))
+      ∙ ap (option_or (newest_row key (take (cut - suc before) writes))) (one (same_key key w.key) n)
+      ∙ sym (newest_cons key w (take (cut - suc before) writes))
+      ∙ ap (λ (k : ℕ). newest_row key (take k (w ∷ writes))) (sym some)
   | inr high ↦
-    let n : Numbered = record { number = suc before; row = w } in
-    let none : cut - before ≡ 0 = let h = leb-false (suc before) cut high in omega (arith, h) in
-    ap row_at (none_upto key cut before (w ∷ writes) (let h = leb-false (suc before) cut high in omega (arith, h)))
-    ∙ ap (λ (k : ℕ). newest_row key (take k (w ∷ writes))) (sym none)
+      let n : Numbered = record { number = suc before; row = w } in
+      let none : cut - before ≡ 0 = let h = leb-false (suc before) cut high in omega (arith, h) in
+      ap row_at (none_upto key cut before (w ∷ writes) (let h = leb-false (suc before) cut high in omega (arith, h)))
+      ∙ ap (λ (k : ℕ). newest_row key (take k (w ∷ writes))) (sym none)
 ]
   where
     one : (b : Bool) (n : Numbered) → row_at (cond (b && true) (Some n) None) ≡ cond b (Some n.row) None
@@ -205,7 +203,6 @@ op_marked ends (Some n) = refl
 -- ---- reads of a flat
 
 module _ (from to : ℕ) (bottom : Bottom) (writes : List Row) (rows : List Kept) (are : AreCuts from to bottom.cuts) (fit : from + length writes ≤ to) (flat : IsFlatOf from to bottom writes rows) (cut : ℕ) (clear : IsClearIn from to bottom.cuts cut) (key : List ℕ) where
-
   found_newest : op_at (find (within cut) (newest_each (ends_of bottom.cuts to) (numbered_after from writes) key)) ≡ newest_op key (take (cut - from) writes)
   found_newest =
       let ends = ends_of bottom.cuts to in

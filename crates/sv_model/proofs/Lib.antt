@@ -12,3 +12,5 @@ pub mod FlatEnds
 pub mod FlatFirsts
 pub mod FlatReads
 pub mod FlatKeys
+pub mod FlatLaws
+pub mod FlatRanges
