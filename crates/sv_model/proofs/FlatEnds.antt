@@ -1,8 +1,8 @@
 -- The ends of a range's intervals, and the end under which a write comes to lie.
-use Rattle.std.proofs.Common.{◌≡◌, ℕ, suc, zero, ◌<◌, ◌≤◌, ◌+◌, ◌⊎◌, inl, inr, Bool, true, false, cond, nat_le, List, [], ◌∷◌, ◌++◌, length, reverse, Option, Some, None, slice_get, refl, sym, ap, subst, ◌∙◌, arith}
+use Rattle.std.proofs.Common.{◌≡◌, ℕ, suc, zero, ◌<◌, ◌≤◌, ◌⊎◌, inl, inr, Bool, true, false, cond, nat_le, List, [], ◌∷◌, ◌++◌, reverse, Some, slice_get, refl, sym, ap, subst, ◌∙◌, arith}
 use Rattle.std.specs.Option.{unwrap_or}
 use Rattle.std.specs.List.{find, AllByRecursion}
-use Rattle.std.proofs.lemmas.Bool.{leb-true, leb-false, le-leb, lt-leb, cases_Bool, both_ways}
+use Rattle.std.proofs.lemmas.Bool.{leb-true, leb-false, le-leb, lt-leb, cases_Bool}
 use Rattle.std.proofs.lemmas.List.{reverse-append}
 use Rattle.sv_model.specs.Lists.{In}
 use Rattle.sv_model.specs.Flat.{ends_of, end_at, end_among, CutsFrom, IsClearIn}
@@ -43,7 +43,7 @@ among_parts : (e : ℕ) (xs ys : List ℕ) → Among e (xs ++ ys) → Among e xs
 among_parts e [] ys there = inr there
 among_parts e (x ∷ xs) ys there = elim there [
   | inl here ↦ inl (inl here)
-  | inr later ↦ elim (among_parts e xs ys later) [ | inl left ↦ inl (inr left) | inr right ↦ inr right ]
+  | inr later ↦ elim (among_parts e xs ys later) [ inl left ↦ inl (inr left) | inr right ↦ inr right ]
 ]
 
 pub among_turned : (e : ℕ) (ds : List ℕ) → Among e ds → Among e (reverse ds)
@@ -80,7 +80,7 @@ to_among cuts to = among_right to cuts (to ∷ []) (inl refl)
 
 -- an end is at most the last
 pub end_most : (low to : ℕ) (cuts : List ℕ) (e : ℕ) → CutsFrom low cuts to → Among e (ends_of cuts to) → e ≤ to
-end_most low to [] e are there = elim there [ | inl here ↦ omega (arith, here) | inr later ↦ absurd later ]
+end_most low to [] e are there = elim there [ inl here ↦ omega (arith, here) | inr later ↦ absurd later ]
 end_most low to (cut ∷ cuts) e are there = elim there [
   | inl here ↦ omega (arith, here, are.1)
   | inr later ↦ end_most cut to cuts e are.2 later
@@ -104,7 +104,7 @@ all_push : (P : ℕ → Type 0) (ds : List ℕ) (c : ℕ) → AllByRecursion P d
 all_push P [] c all here = (here, tt)
 all_push P (d ∷ ds) c all here = (all.0, all_push P ds c all.1 here)
 
-all_turned : (P : ℕ → Type 0) (ds : List ℕ) → AllByRecursion P ds → AllByRecursion P (reverse ds)
+pub all_turned : (P : ℕ → Type 0) (ds : List ℕ) → AllByRecursion P ds → AllByRecursion P (reverse ds)
 all_turned P [] all = tt
 all_turned P (d ∷ ds) all =
     subst (AllByRecursion P) (sym (reverse-append (d ∷ []) ds)) (all_push P (reverse ds) d (all_turned P ds all.1) all.0)
@@ -121,7 +121,7 @@ ends_under low to (cut ∷ cuts) are = (omega (arith, are.1), ends_under cut to 
 
 -- ---- the end of a number
 
-at_first : (n e : ℕ) (ends : List ℕ) → nat_le n e ≡ true → end_at (e ∷ ends) n ≡ e
+pub at_first : (n e : ℕ) (ends : List ℕ) → nat_le n e ≡ true → end_at (e ∷ ends) n ≡ e
 at_first n e ends h = ap (λ (b : Bool). unwrap_or (cond b (Some e) (find (λ d. nat_le n d) ends)) 0) h
 
 at_later : (n e : ℕ) (ends : List ℕ) → nat_le n e ≡ false → end_at (e ∷ ends) n ≡ end_at ends n
@@ -133,12 +133,12 @@ end_is [] n c there le = absurd there
 end_is (e ∷ ends) n c there le = elim (cases_Bool (nat_le n e)) [
   | inl h ↦ let is = at_first n e ends h in let low = leb-true n e h in (inl is, omega (arith, is, low))
   | inr h ↦
-    let is = at_later n e ends h in
-    let high = leb-false n e h in
-    elim there [
-      | inl here ↦ absurd (omega (arith, here, high))
-      | inr later ↦ let r = end_is ends n c later le in (inr (subst (λ (k : ℕ). Among k ends) (sym is) r.0), omega (arith, is, r.1))
-    ]
+      let is = at_later n e ends h in
+      let high = leb-false n e h in
+      elim there [
+        | inl here ↦ absurd (omega (arith, here, high))
+        | inr later ↦ let r = end_is ends n c later le in (inr (subst (λ (k : ℕ). Among k ends) (sym is) r.0), omega (arith, is, r.1))
+      ]
 ]
 
 -- it is the least of the ends that are not below the number
@@ -146,18 +146,18 @@ pub end_least : (low : ℕ) (ends : List ℕ) (n c : ℕ) → AscendFrom low end
 end_least low [] n c up there le = absurd there
 end_least low (e ∷ ends) n c up there le = elim (cases_Bool (nat_le n e)) [
   | inl h ↦
-    let is = at_first n e ends h in
-    elim there [
-      | inl here ↦ omega (arith, is, here)
-      | inr later ↦ omega (arith, is, above_low e ends c up.1 later)
-    ]
+      let is = at_first n e ends h in
+      elim there [
+        | inl here ↦ omega (arith, is, here)
+        | inr later ↦ omega (arith, is, above_low e ends c up.1 later)
+      ]
   | inr h ↦
-    let is = at_later n e ends h in
-    let high = leb-false n e h in
-    elim there [
-      | inl here ↦ absurd (omega (arith, here, high))
-      | inr later ↦ omega (arith, is, end_least e ends n c up.1 later le)
-    ]
+      let is = at_later n e ends h in
+      let high = leb-false n e h in
+      elim there [
+        | inl here ↦ absurd (omega (arith, here, high))
+        | inr later ↦ omega (arith, is, end_least e ends n c up.1 later le)
+      ]
 ]
 
 -- the end of a greater number is not smaller
@@ -176,7 +176,6 @@ among_is (cut ∷ cuts) to n le = elim (cases_Bool (nat_le n cut)) [
 -- ---- a range with its cuts
 
 module _ (from to : ℕ) (cuts : List ℕ) (are : CutsFrom from cuts to) where
-
   pub range_end_is : (n : ℕ) → n ≤ to → Among (end_at (ends_of cuts to) n) (ends_of cuts to) × (n ≤ end_at (ends_of cuts to) n)
   range_end_is n le = end_is (ends_of cuts to) n to (to_among cuts to) le
 

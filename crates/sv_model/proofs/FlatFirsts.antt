@@ -1,6 +1,6 @@
 -- Of a key's writes, the newest first, each under its interval's end, the newest of each interval are the first of each
 -- end.
-use Rattle.std.proofs.Common.{◌≡◌, ℕ, suc, ◌<◌, ◌≤◌, ◌+◌, ◌⊎◌, inl, inr, Bool, true, false, cond, ◌&&◌, eqb, List, [], ◌∷◌, ◌++◌, length, map, reverse, Option, Some, None, refl, sym, ap, subst, ◌∙◌, arith}
+use Rattle.std.proofs.Common.{◌≡◌, ℕ, suc, ◌<◌, ◌≤◌, ◌+◌, inl, inr, Bool, true, false, cond, ◌&&◌, eqb, List, [], ◌∷◌, ◌++◌, length, map, reverse, Option, Some, None, refl, sym, ap, subst, ◌∙◌, arith}
 use Rattle.std.specs.Option.{option_map}
 use Rattle.std.specs.List.{find, filter, filter_map, cons_option, AllByRecursion}
 use Rattle.std.proofs.lemmas.Bool.{cases_Bool, eqb-true, eqb-false, eq-eqb, ne_eqb}
@@ -9,7 +9,7 @@ use Rattle.sv_model.specs.declared.writes.Row.{Row}
 use Rattle.sv_model.specs.declared.writes.Kept.{Kept}
 use Rattle.sv_model.specs.declared.writes.Numbered.{Numbered}
 use Rattle.sv_model.specs.Journal.{same_key}
-use Rattle.sv_model.specs.Flat.{numbered_after, ends_of, end_at, newest_in, newest_each, CutsFrom}
+use Rattle.sv_model.specs.Flat.{numbered_after, ends_of, end_at, newest_each, CutsFrom}
 use Rattle.sv_model.proofs.FlatEnds.{Among, among_turned, DescendFrom, turned_down, ends_ascend, ends_under, range_end_is, range_end_most, range_end_rises}
 
 -- ---- the first of each end
@@ -65,7 +65,7 @@ none_at d high (r ∷ rows) lt fall =
 narrow : (o high : ℕ) (ds : List ℕ) (rows : List Kept) → high < o → FallFrom high rows → EndsAmong (o ∷ ds) rows → EndsAmong ds rows
 narrow o high ds [] lt fall among = tt
 narrow o high ds (r ∷ rows) lt fall among =
-    (elim (among.0) [ | inl here ↦ absurd (omega (arith, here, fall.0)) | inr later ↦ later ], narrow o r.end ds rows (omega (arith, fall.0)) fall.1 among.1)
+    (elim (among.0) [ inl here ↦ absurd (omega (arith, here, fall.0)) | inr later ↦ later ], narrow o r.end ds rows (omega (arith, fall.0)) fall.1 among.1)
 
 firsts_only : (o : ℕ) (rows : List Kept) → EndsAmong (o ∷ []) rows → firsts (Some o) rows ≡ []
 firsts_only o [] among = refl
@@ -82,7 +82,6 @@ fall_higher low high [] le fall = tt
 fall_higher low high (r ∷ rows) le fall = (omega (arith, fall.0), fall.1)
 
 module _ (d : ℕ) (ds : List ℕ) (o : ℕ) (down : DescendFrom o (d ∷ ds)) (rest : (rows : List Kept) → FallFrom d rows → EndsAmong (d ∷ ds) rows → each_of ds rows ≡ firsts (Some d) rows) where
-
   -- the row bears the greatest end that is left
   one_here : (r : Kept) (rows : List Kept) → r.end ≡ d → FallFrom r.end rows → EndsAmong (o ∷ d ∷ ds) rows → each_of (d ∷ ds) (r ∷ rows) ≡ r ∷ firsts (Some r.end) rows
   one_here r rows e fall among =
@@ -110,10 +109,10 @@ module _ (d : ℕ) (ds : List ℕ) (o : ℕ) (down : DescendFrom o (d ∷ ds)) (
   one_more [] fall among = each_none (d ∷ ds)
   one_more (r ∷ rows) fall among = elim (cases_Bool (eqb r.end o)) [
     | inl same ↦
-      let e : r.end ≡ o = eqb-true r.end o same in
-      each_skip (d ∷ ds) r rows (subst (λ (k : ℕ). DescendFrom k (d ∷ ds)) (sym e) down)
-      ∙ one_more rows (fall_as r.end o rows e fall.1) among.1
-      ∙ sym (firsts_again o r rows same)
+        let e : r.end ≡ o = eqb-true r.end o same in
+        each_skip (d ∷ ds) r rows (subst (λ (k : ℕ). DescendFrom k (d ∷ ds)) (sym e) down)
+        ∙ one_more rows (fall_as r.end o rows e fall.1) among.1
+        ∙ sym (firsts_again o r rows same)
     | inr new ↦ elim (among.0) [
       | inl here ↦ absurd (eqb-false r.end o new here)
       | inr later ↦ elim later [
@@ -204,7 +203,6 @@ newest_each_of ends key writes = ap (λ (f : ℕ → Option Kept). filter_map f 
 -- ---- the writes of a range
 
 module _ (from to : ℕ) (cuts : List ℕ) (are : CutsFrom from cuts to) (some : from < to) where
-
   pub marks_fall : (high : ℕ) (writes : List Numbered) → high ≤ to → NumbersFall from high writes → FallFrom (end_at (ends_of cuts to) high) (map (mark (ends_of cuts to)) writes)
   marks_fall high [] most fall = tt
   marks_fall high (n ∷ writes) most fall =

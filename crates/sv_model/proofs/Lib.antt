@@ -1,6 +1,10 @@
 pub mod AfterLaws
 pub mod FlatEnds
 pub mod FlatFirsts
+pub mod FlatKeys
+pub mod FlatLaws
+pub mod FlatRanges
+pub mod FlatReads
 pub mod Freed
 pub mod KeyOrder
 pub mod Lists
