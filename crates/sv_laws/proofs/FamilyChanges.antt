@@ -24,7 +24,7 @@ use Rattle.sv_model.specs.Steady.{Sound, IsCurrent}
 use Rattle.sv_model.proofs.Lists.{total_at}
 use Rattle.sv_model.proofs.Registers.{goes-same}
 use Rattle.sv_model.proofs.AfterLaws.{continues-itself, super-itself, memtable-itself, list-itself, version-itself, number-itself, family-itself, snapshot-itself}
-use Rattle.sv_laws.specs.Families.{ChangesFamily, IsDropped, IsOpened, IsReleased, IsRetired, IsEnded, released}
+use Rattle.sv_laws.specs.Families.{ChangesFamily, IsDropped, IsOpened, IsReleased, IsRetired, IsCurrentEnded, released}
 use Rattle.sv_laws.specs.Growing.{IsPlaced}
 use Rattle.sv_laws.proofs.Items.{some, none_some}
 use Rattle.sv_laws.proofs.Growing.{placed_get, placed-goes, get_within, get-some, placed-set}
@@ -327,7 +327,7 @@ module _ (a b : Books) (k : Sound a) (f : ℕ) where
         is = h.is;
       })
 
-  pub ended : IsEnded a b f → Sound b × After a b
+  pub ended : IsCurrentEnded a b f → Sound b × After a b
   ended h =
       reshaped a b k f h.it h.it h.top (record h.top { current = None }) (record {
         at = h.at;

@@ -23,3 +23,11 @@ pub mod FamilyChanges
 pub mod FileChanges
 pub mod Cleaned
 pub mod Purged
+pub mod Captured
+pub mod GivenUp
+pub mod MidstLaws
+pub mod CleanupBegins
+pub mod Needs
+pub mod Rooms
+pub mod Opened
+pub mod Snapped
