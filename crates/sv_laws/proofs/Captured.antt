@@ -108,7 +108,7 @@ module _ (a b : Books) (k : Sound a) (f : ℕ) (file : FileMeta) (h : IsFileCapt
         (λ o. (length a.files.numbers + 1, y, entry-new a.files.numbers y (length a.files.numbers + 1) refl, record { number_is = sym o.1; status_is = refl; family_is = ap Some (sym o.0) }))
         (λ o. let w = law.held g m o.1 in (w.0, w.1, entry-old a.files.numbers (y ∷ []) w.0 w.1 w.2, w.3))
         (captured_is g m q);
-    positive = λ i x at p. ⊎_elim (λ o. law.positive i x o p) (λ o. omega (arith, law.least, ap (λ (z : RegisteredFile). z.number) o.1)) (entry_is i x at);
+    drawn = λ i x at p. ⊎_elim (λ o. law.drawn i x o p) (λ o. omega (arith, law.least, ap (λ (z : RegisteredFile). z.number) o.1)) (entry_is i x at);
     grabbed = λ i x at p g m q. ⊎_elim
         (λ o. ⊎_elim (λ u. omega (arith, law.below i x o, u.1)) (λ u. law.grabbed i x o p g m u.1) (captured_is g m q))
         (λ o. pending_grabbed (ap (λ (z : RegisteredFile). z.status) (sym o.1) ∙ p))
