@@ -1,4 +1,5 @@
 pub mod AfterLaws
+pub mod Ascending
 pub mod FlatEnds
 pub mod FlatFirsts
 pub mod FlatKeys
