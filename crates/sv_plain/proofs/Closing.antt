@@ -21,8 +21,7 @@ use Rattle.sv_model.specs.Files.{Files, file_of, file_name}
 use Rattle.sv_dir.specs.Files.{same_name}
 use Rattle.sv_dir.proofs.Laws.{same_name-file_name}
 use Rattle.sv_model.specs.Cells.{Cell}
-use Rattle.sv_files.specs.Calls.{IsRegistered}
-use Rattle.sv_files.specs.Laws.{FileLaws}
+use Rattle.sv_model.specs.Numbers.{IsRegistered, NumbersStand}
 use Rattle.sv_plain.specs.declared.immutables.Immutable.{Immutable}
 use Rattle.sv_plain.specs.Closed.{EndsAs, IsClosed, IsSettledNumber}
 use Rattle.sv_plain.specs.Emptied.{IsEmptied}
@@ -39,7 +38,7 @@ pub record Closing (b mid : Books) (reach base serial place list version : ℕ) 
   pub stands : Stands b reach base serial place list version active its
   pub emptied : IsEmptied b mid
   pub store : IsStore mid
-  pub laws : FileLaws b.files.numbers b.files.captured b.files.next
+  pub laws : NumbersStand b.files.numbers b.files.captured b.files.next
   pub fits : b.files.next < 2 ^ 64
   pub removal : IsRemoval b.files files
 

@@ -14,7 +14,9 @@ use Rattle.sv_model.specs.Ranges.{FilesJoin}
 use Rattle.sv_model.specs.Registers.{entry, change, GoesOn}
 use Rattle.sv_model.proofs.Ranges as ranges
 use Rattle.sv_model.proofs.Registers.{entry_push, entry-old, entry-new, goes-change}
-use Rattle.sv_files.specs.Calls.{IsRegistered, IsSettled, captured_for, settled_status}
+use Rattle.sv_plain.specs.Outcomes.{IsSettled, settled_status}
+use Rattle.sv_model.specs.Numbers.{IsRegistered}
+use Rattle.sv_files.specs.Calls.{captured_for}
 use Rattle.sv_plain.specs.Stands.{FilesStand, IsKept, IsNamedFile}
 use Rattle.sv_plain.proofs.Going.{number_itself}
 use Rattle.sv_plain.proofs.Switching.{get-front, get-end}

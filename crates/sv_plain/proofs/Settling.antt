@@ -15,7 +15,9 @@ use Rattle.sv_model.specs.Named.{numbers_of}
 use Rattle.sv_model.specs.Registers.{entry, change, GoesOn}
 use Rattle.sv_model.proofs.Registers.{entry-old, entry-new, entry_push, goes-same, goes-change}
 use Rattle.sv_model.specs.Cells.{Cell}
-use Rattle.sv_files.specs.Calls.{IsMarked, IsRegistered, IsSettled, captured_for, settled_status}
+use Rattle.sv_plain.specs.Outcomes.{IsSettled, settled_status}
+use Rattle.sv_model.specs.Numbers.{IsMarked, IsRegistered}
+use Rattle.sv_files.specs.Calls.{Settles, captured_for}
 use Rattle.sv_plain.specs.declared.immutables.Immutable.{Immutable}
 use Rattle.sv_plain.specs.declared.parts.Parts.{Parts}
 use Rattle.sv_plain.specs.Flushing.{Outputs}
@@ -81,6 +83,10 @@ pub settles_output : (p : Parts) (file : FileMeta) (new : FileRegister) (live : 
 settles_output p file new live o is =
     let h = settles o.before new file.number live o.stands.files.kept o.stands.idle o.number (subst (λ z. IsSettled file.number live z new) o.files_are is) in
     (h.0, h.1, h.2 ∙ sym (ap (λ (r : FileRegister). r.next) o.files_are))
+
+-- what the register of numbers says of it
+pub settled_as : (number : ℕ) (live : Bool) (old new : FileRegister) → Settles number (settled_status live) old new → IsSettled number live old new
+settled_as number live old new s = record { family = s.family; numbers = s.settled.numbers; of = s.settled.of; was = s.settled.was; rest = s.settled.rest }
 
 -- the captured number is Pending
 pub pends : (before : FileRegister) (number : ℕ) → number ≡ before.next → IsRegistered (captured_for before 0).numbers number Pending

@@ -111,7 +111,7 @@ impl Parts {
         let Ok(()) = self.metas.reserve(1) else {
             return Err(Refusal::OutOfMemory);
         };
-        let _ = self.files.next();
+        self.files.laws();
         let number = self.files.capture(FamilyId(0))?.0;
         let (from, to) = (self.reach, self.base);
         self.metas.push_reserved(file_over(number, from, to));

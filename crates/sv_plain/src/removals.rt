@@ -4,8 +4,7 @@ ghost use Rattle.sv_model.specs.declared.FileStatus.TheVariants.{Gone, Obsolete}
 ghost use Rattle.sv_model.specs.Faults.{HasCauseOf};
 ghost use Rattle.sv_dir.specs.Files.{MayRemove, RemovesFile};
 ghost use Rattle.sv_dir.specs.declared.DirError.TheVariants.{Failed};
-ghost use Rattle.sv_files.specs.Calls.{IsRegistered, MarksOnly};
-ghost use Rattle.sv_files.specs.Laws.{FileLaws};
+ghost use Rattle.sv_model.specs.Numbers.{IsRegistered, MarksOnly, NumbersStand};
 ghost use Rattle.sv_plain.specs.Held.{Both};
 ghost use Rattle.sv_plain.specs.Removed.{CountsAs, IsRemoval, Removes, count_obsolete, end_after};
 
@@ -48,7 +47,7 @@ fn end_after(end: End, tried: &Result<(), DirError>) -> End
 /// Tries the removal of each Obsolete file once, in ascending order of the numbers. Takes no memory but what the
 /// directory takes.
 pub(crate) fn remove_obsolete<D: Dir>(files: &mut FileBook, dir: &mut D) -> End
-    ensures laws { FileLaws files.old.numbers files.old.captured files.old.next }
+    ensures laws { NumbersStand files.old.numbers files.old.captured files.old.next }
     ensures fits { files.old.next < 2 ^ 64 }
     ensures numbers { IsRemoval files.old files.new }
     ensures files { Both (Removes files.old.numbers files.new.numbers) (D.files dir.old) (D.files dir.new) }

@@ -2,7 +2,7 @@
 use Rattle.std.proofs.Common.{◌<◌, subst}
 use Rattle.std.specs.Prelude.{◌^◌}
 use Rattle.sv_model.specs.Books.{FileRegister}
-use Rattle.sv_files.specs.Laws.{FileLaws}
+use Rattle.sv_model.specs.Numbers.{NumbersStand}
 use Rattle.sv_plain.specs.Held.{Both}
 use Rattle.sv_plain.specs.Removed.{IsRemoval, Removes}
 use Rattle.sv_plain.specs.Views.{books_of}
@@ -18,7 +18,7 @@ closing g c =
       stands = c.requires.stands;
       emptied = c.end_current.ensures.emptied;
       store = c.end_current.ensures.rests.store;
-      laws = subst (λ (r : FileRegister). FileLaws r.numbers r.captured r.next) same c.remove_obsolete.ensures.laws;
+      laws = subst (λ (r : FileRegister). NumbersStand r.numbers r.captured r.next) same c.remove_obsolete.ensures.laws;
       fits = subst (λ (r : FileRegister). r.next < 2 ^ 64) same c.remove_obsolete.ensures.fits;
       removal = subst (λ (r : FileRegister). IsRemoval r c.remove_obsolete.new.files) same c.remove_obsolete.ensures.numbers;
     }
