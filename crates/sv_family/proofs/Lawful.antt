@@ -1,14 +1,14 @@
 -- The laws of families stand where one is changed, made or taken back.
-use Rattle.std.proofs.Common.{◌≡◌, ◌≢◌, ℕ, zero, suc, ◌+◌, ◌<◌, ◌≤◌, ◌⊎◌, inl, inr, Bool, true, false, nat_le, List, [], ◌∷◌, ◌++◌, length, replicate, get_or, Option, Some, None, IsSomeAnd, slice_get, set, arith, refl, sym, ap, subst, ◌∙◌, length-set, length-append, append-nil}
+use Rattle.std.proofs.Common.{◌≡◌, ◌≢◌, ℕ, zero, suc, ◌<◌, ◌⊎◌, inl, inr, Bool, true, false, nat_le, List, [], ◌∷◌, ◌++◌, length, replicate, Option, Some, None, slice_get, set, arith, refl, sym, ap, subst, ◌∙◌, length-set, length-append, append-nil}
 use Rattle.std.specs.Option.{option_to_list}
 use Rattle.std.proofs.lemmas.Bool.{leb-false}
 use Rattle.sv_model.specs.declared.records.Family.{Family}
-use Rattle.sv_model.specs.declared.settings.Options.{Options}
 use Rattle.sv_model.specs.declared.refusals.Refusal.{Refusal}
 use Rattle.sv_model.specs.declared.refusals.Refusal.TheVariants as refusal
 use Rattle.sv_model.specs.Families.{AreFamilies, AtMostOne, Each, HasHandle, InRange, IsDefault, IsOwn, IsStanding, default_family, first_options}
 use Rattle.sv_model.proofs.Registers.{entry-old, entry-same, entry-else, entry_push, entry_change}
 use Rattle.sv_model.proofs.Refusing.{none_due}
+use Rattle.sv_family.specs.declared.making.TheConstants.{MAX_FAMILIES}
 use Rattle.sv_family.specs.Calls.{new_family}
 use Rattle.sv_family.specs.Refused.{create_fault, handle_fault, has_handle, stands, taken_fault, when}
 use Rattle.sv_family.proofs.Seeking.{own_known, standing_known}
@@ -35,13 +35,13 @@ get_push l k y z h = elim (entry_push l y (suc k) z h) [
 most_set : (Is : Family → Type 0) (families : List Family) (id : ℕ) (y : Family) → AtMostOne Is families → (Is y → (g : ℕ) (z : Family) → slice_get families g ≡ Some z → Is z → g ≡ id) → AtMostOne Is (set families id y)
 most_set Is families id y h only f g a b f_is g_is a_so b_so = elim (get_set families id f y a f_is) [
   | inl here ↦ (let at = here.0 in elim (get_set families id g y b g_is) [
-      | inl there ↦ (let e = there.0 in omega arith)
-      | inr there ↦ (let e = only (subst Is here.1 a_so) g b there.1 b_so in omega arith)
-    ])
+    | inl there ↦ (let e = there.0 in omega arith)
+    | inr there ↦ (let e = only (subst Is here.1 a_so) g b there.1 b_so in omega arith)
+  ])
   | inr here ↦ elim (get_set families id g y b g_is) [
-      | inl there ↦ (let at = there.0 in let e = only (subst Is there.1 b_so) f a here.1 a_so in omega arith)
-      | inr there ↦ h f g a b here.1 there.1 a_so b_so
-    ]
+    | inl there ↦ (let at = there.0 in let e = only (subst Is there.1 b_so) f a here.1 a_so in omega arith)
+    | inr there ↦ h f g a b here.1 there.1 a_so b_so
+  ]
 ]
 
 each_set : (Is : Family → Type 0) (families : List Family) (id : ℕ) (y : Family) → Each Is families → Is y → Each Is (set families id y)
@@ -72,11 +72,11 @@ module _ (families : List Family) (id : ℕ) (x y : Family) (h : AreFamilies fam
           stands = (k.default (sym here)).0;
         })
     | inr other ↦ record {
-        it = h.default.it;
-        at = entry-else families (suc id) (suc 0) y (λ e. other (omega arith)) ∙ h.default.at;
-        name_is = h.default.name_is;
-        stands = h.default.stands;
-      }
+      it = h.default.it;
+      at = entry-else families (suc id) (suc 0) y (λ e. other (omega arith)) ∙ h.default.at;
+      name_is = h.default.name_is;
+      stands = h.default.stands;
+    }
   ]
 
   home_set : (lane : ℕ) (z : Family) → lane < 32 → slice_get (set families id y) 0 ≡ Some z → HasHandle lane z
@@ -110,13 +110,13 @@ none_true (suc n) (suc lane) h = none_true n lane h
 most_push : (Is : Family → Type 0) (families : List Family) (y : Family) → AtMostOne Is families → (Is y → (g : ℕ) (z : Family) → slice_get families g ≡ Some z → Is z → ⊥) → AtMostOne Is (families ++ y ∷ [])
 most_push Is families y h none f g a b f_is g_is a_so b_so = elim (get_push families f y a f_is) [
   | inl old ↦ elim (get_push families g y b g_is) [
-      | inl there ↦ h f g a b old there a_so b_so
-      | inr there ↦ absurd (none (subst Is there.1 b_so) f a old a_so)
-    ]
+    | inl there ↦ h f g a b old there a_so b_so
+    | inr there ↦ absurd (none (subst Is there.1 b_so) f a old a_so)
+  ]
   | inr new ↦ (let at = new.0 in elim (get_push families g y b g_is) [
-      | inl there ↦ absurd (none (subst Is new.1 a_so) g b there b_so)
-      | inr there ↦ (let e = there.0 in omega arith)
-    ])
+    | inl there ↦ absurd (none (subst Is new.1 a_so) g b there b_so)
+    | inr there ↦ (let e = there.0 in omega arith)
+  ])
 ]
 
 each_push : (Is : Family → Type 0) (families : List Family) (y : Family) → Each Is families → Is y → Each Is (families ++ y ∷ [])
@@ -143,8 +143,8 @@ lawful_push families y h new = record {
     stands = h.default.stands;
   };
   home = λ lane z few z_is. h.home lane z few (
-    let first : slice_get (families ++ y ∷ []) 0 ≡ Some h.default.it = entry-old families (y ∷ []) (suc 0) h.default.it h.default.at in
-    h.default.at ∙ sym first ∙ z_is);
+      let first : slice_get (families ++ y ∷ []) 0 ≡ Some h.default.it = entry-old families (y ∷ []) (suc 0) h.default.it h.default.at in
+      h.default.at ∙ sym first ∙ z_is);
   distinct = λ name. most_push (IsStanding name) families y (h.distinct name) (new.free name);
   meant = λ lane name. most_push (IsOwn lane name) families y (h.meant lane name) (new.unmeant lane name);
   options = each_push (λ f. InRange f.options) families y h.options new.options;
@@ -172,29 +172,29 @@ pub free_is : (families : List Family) (lane : ℕ) (name : List ℕ) → create
 free_is families lane name h =
     let first = none_due (taken_fault families name) _ h in
     let second = none_due (handle_fault families lane name) _ first.1 in
-    let third = none_due (when (nat_le 16 (length families)) refusal.TooManyFamilies) [] second.1 in
+    let third = none_due (when (nat_le MAX_FAMILIES (length families)) refusal.TooManyFamilies) [] second.1 in
     record {
       untaken = none_due_of (stands families name) refusal.NameTaken first.0;
       unheld = none_due_of (has_handle families lane name) refusal.AlreadyOpen second.0;
-      room = leb-false 16 (length families) (none_due_of (nat_le 16 (length families)) refusal.TooManyFamilies third.0);
+      room = leb-false 16 (length families) (none_due_of (nat_le MAX_FAMILIES (length families)) refusal.TooManyFamilies third.0);
     }
 
 pub lawful_create : (families self : List Family) (lane : ℕ) (name : List ℕ) (y : Family) → families ≡ self → AreFamilies families → create_fault self lane name ≡ None → y ≡ new_family lane name → AreFamilies (families ++ y ∷ [])
 lawful_create families self lane name y same h due y_is =
     let free = free_is families lane name (ap (λ l. create_fault l lane name) same ∙ due) in
     subst (λ f. AreFamilies (families ++ f ∷ [])) (sym y_is) (lawful_push families (new_family lane name) h (record {
-        room = free.room;
-        free = λ other own g z g_is so. (
-            let clash : true ≡ false = sym (standing_known families name g z g_is (record { name_is = so.name_is ∙ sym own.name_is; stands = so.stands })) ∙ free.untaken in
-            cc);
-        unmeant = λ k other own g z g_is so. (
-            let here : k ≡ lane = only_lane 32 lane k own.handle in
-            let meant : IsOwn lane name z = record { name_is = so.name_is ∙ sym own.name_is; handle = subst (λ l. HasHandle l z) here so.handle } in
-            let clash : true ≡ false = sym (own_known families lane name g z g_is meant) ∙ free.unheld in
-            cc);
-        options = first_in_range;
-        lanes = length-set (replicate 32 false) lane true;
-      }))
+      room = free.room;
+      free = λ other own g z g_is so. (
+          let clash : true ≡ false = sym (standing_known families name g z g_is (record { name_is = so.name_is ∙ sym own.name_is; stands = so.stands })) ∙ free.untaken in
+          cc);
+      unmeant = λ k other own g z g_is so. (
+          let here : k ≡ lane = only_lane 32 lane k own.handle in
+          let meant : IsOwn lane name z = record { name_is = so.name_is ∙ sym own.name_is; handle = subst (λ l. HasHandle l z) here so.handle } in
+          let clash : true ≡ false = sym (own_known families lane name g z g_is meant) ∙ free.unheld in
+          cc);
+      options = first_in_range;
+      lanes = length-set (replicate 32 false) lane true;
+    }))
 
 -- ---- the one made last is taken back
 get_old : {A : Type 0} (l m : List A) (k : ℕ) (z : A) → slice_get l k ≡ Some z → slice_get (l ++ m) k ≡ Some z

@@ -9,11 +9,12 @@ use Rattle.std.proofs.lemmas.Option.{slice_get-get_or}
 use Rattle.std.proofs.lemmas.Slice.Eq.{bytes_eq-Decides}
 use Rattle.std.specs.Str.{bytes_eq}
 use Rattle.sv_model.specs.declared.records.Family.{Family}
+use Rattle.sv_model.specs.declared.refusals.Refusal.{Refusal}
 use Rattle.sv_model.specs.declared.refusals.Refusal.TheVariants as refusal
 use Rattle.sv_model.specs.Lists.{total}
 use Rattle.sv_model.specs.Refusals.{first_due}
 use Rattle.sv_model.specs.Families.{AtMostOne, IsOwn, IsStanding, is_retired}
-use Rattle.sv_family.specs.Refused.{change_fault, dropped_fault, find_fault, has_handle, is_own, is_standing, stands, when}
+use Rattle.sv_family.specs.Refused.{dropped_fault, has_handle, is_own, is_standing, stands, when}
 
 -- ---- the scan
 any_next : (b rest : Bool) (k n : ℕ) → rest ≡ ltb k n → (b || rest) ≡ ltb (cond (not b) (1 + k) 0) (suc n)
@@ -125,32 +126,33 @@ module _ (families : List Family) (lane : ℕ) (name : List ℕ) (id : ℕ) (fou
       (h.0, h.1, h.2, cc)
 
   -- the handle is of a dropped family
-  pub dropped_due : option_map (λ f. f.dropped) (slice_get families id) ≡ Some true → dropped_fault families lane name ≡ Some refusal.Dropped
+  dropped_due : option_map (λ f. f.dropped) (slice_get families id) ≡ Some true → dropped_fault families lane name ≡ Some refusal.Dropped
   dropped_due e =
       let h = read_dropped true e in
       let passes : (is_own lane name h.0 && h.0.dropped) ≡ true = ap (λ b. b && h.0.dropped) (own_test lane name h.0 h.2) ∙ h.3 in
       ap (λ b. when b refusal.Dropped) (any_at (λ f. is_own lane name f && f.dropped) families id h.0 h.1 passes)
 
   -- no other handle of the name is the lane's
-  pub dropped_not_due : AtMostOne (IsOwn lane name) families → option_map (λ f. f.dropped) (slice_get families id) ≡ Some false → dropped_fault families lane name ≡ None
+  dropped_not_due : AtMostOne (IsOwn lane name) families → option_map (λ f. f.dropped) (slice_get families id) ≡ Some false → dropped_fault families lane name ≡ None
   dropped_not_due one e =
       let h = read_dropped false e in
       ap (λ b. when b refusal.Dropped) (none_any (λ f. is_own lane name f && f.dropped) families (λ i x at. fails (is_own lane name x) x.dropped (λ own.
-          let own_x = own_is lane name x own in
-          let here : i ≡ id = one i id x h.0 at h.1 own_x h.2 in
-          let same : Some x ≡ Some h.0 = sym at ∙ ap (slice_get families) here ∙ h.1 in
-          let x_is : x ≡ h.0 = cc in
-          ap (λ (f : Family). f.dropped) x_is ∙ h.3)))
+      let own_x = own_is lane name x own in
+      let here : i ≡ id = one i id x h.0 at h.1 own_x h.2 in
+      let same : Some x ≡ Some h.0 = sym at ∙ ap (slice_get families) here ∙ h.1 in
+      let x_is : x ≡ h.0 = cc in
+      ap (λ (f : Family). f.dropped) x_is ∙ h.3)))
     where
       fails : (a b : Bool) → (a ≡ true → b ≡ false) → (a && b) ≡ false
       fails true b h = h refl
       fails false b h = refl
 
-  pub change_due : find_fault families lane name ≡ None → option_map (λ f. f.dropped) (slice_get families id) ≡ Some true → change_fault families lane name ≡ Some refusal.Dropped
-  change_due none e = ap (λ d. first_due (d ∷ dropped_fault families lane name ∷ [])) none ∙ ap (λ d. first_due (d ∷ [])) (dropped_due e)
+  -- and so after another test
+  pub dropped_due_next : (first : Option Refusal) → first ≡ None → option_map (λ f. f.dropped) (slice_get families id) ≡ Some true → first_due (first ∷ dropped_fault families lane name ∷ []) ≡ Some refusal.Dropped
+  dropped_due_next first none e = ap (λ d. first_due (d ∷ dropped_fault families lane name ∷ [])) none ∙ ap (λ d. first_due (d ∷ [])) (dropped_due e)
 
-  pub change_not_due : find_fault families lane name ≡ None → AtMostOne (IsOwn lane name) families → option_map (λ f. f.dropped) (slice_get families id) ≡ Some false → change_fault families lane name ≡ None
-  change_not_due none one e = ap (λ d. first_due (d ∷ dropped_fault families lane name ∷ [])) none ∙ ap (λ d. first_due (d ∷ [])) (dropped_not_due one e)
+  pub dropped_not_due_next : (first : Option Refusal) → first ≡ None → AtMostOne (IsOwn lane name) families → option_map (λ f. f.dropped) (slice_get families id) ≡ Some false → first_due (first ∷ dropped_fault families lane name ∷ []) ≡ None
+  dropped_not_due_next first none one e = ap (λ d. first_due (d ∷ dropped_fault families lane name ∷ [])) none ∙ ap (λ d. first_due (d ∷ [])) (dropped_not_due one e)
 
 -- ---- no lane has a handle
 none_held : (handles : List Bool) → (total (λ held. cond held 1 0) handles == 0) ≡ not (list_any (λ held. held) handles)

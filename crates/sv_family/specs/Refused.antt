@@ -6,6 +6,7 @@ use Rattle.sv_model.specs.declared.records.Family.{Family}
 use Rattle.sv_model.specs.declared.settings.OptionName.{OptionName}
 use Rattle.sv_model.specs.declared.refusals.Refusal.{Refusal}
 use Rattle.sv_model.specs.declared.refusals.Refusal.TheVariants as refusal
+use Rattle.sv_family.specs.declared.making.TheConstants.{MAX_FAMILIES}
 use Rattle.sv_model.specs.Families.{default_name, greatest_of}
 use Rattle.sv_model.specs.Refusals.{first_due}
 
@@ -50,7 +51,7 @@ dropped_fault families lane name = when (list_any (λ f. is_own lane name f && f
 
 abbrev pub create_fault : List Family → ℕ → List ℕ → Option Refusal
 create_fault families lane name =
-    first_due (taken_fault families name ∷ handle_fault families lane name ∷ when (nat_le 16 (length families)) refusal.TooManyFamilies ∷ [])
+    first_due (taken_fault families name ∷ handle_fault families lane name ∷ when (nat_le MAX_FAMILIES (length families)) refusal.TooManyFamilies ∷ [])
 
 abbrev pub find_fault : List Family → ℕ → List ℕ → Option Refusal
 find_fault families lane name =
@@ -66,7 +67,7 @@ abbrev pub change_fault : List Family → ℕ → List ℕ → Option Refusal
 change_fault families lane name = first_due (find_fault families lane name ∷ dropped_fault families lane name ∷ [])
 
 abbrev pub drop_fault : List Family → ℕ → List ℕ → Option Refusal
-drop_fault families lane name = first_due (default_fault name ∷ change_fault families lane name ∷ [])
+drop_fault families lane name = first_due (release_fault families lane name ∷ dropped_fault families lane name ∷ [])
 
 abbrev pub set_fault : List Family → ℕ → List ℕ → OptionName → ℕ → Option Refusal
 set_fault families lane name option value = first_due (option_fault option value ∷ change_fault families lane name ∷ [])

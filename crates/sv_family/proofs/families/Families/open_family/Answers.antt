@@ -12,3 +12,6 @@ invariant_of-self c = lawful_open c.args.lane c.args.name.now c.self.inside.fami
 
 pub returns-clause-changed : goal.returns-clause-changed
 returns-clause-changed c = changed_is (IsStanding c.args.name.now) c.self.inside.families.items c.args.self.now c.id.inside.0 c.in-Some.id c.index_mut-family.result.now (was_read c) (with_handle c.args.lane true)
+
+pub returns-clause-lawful : goal.returns-clause-lawful
+returns-clause-lawful c = invariant_of-self c
