@@ -14,8 +14,8 @@ use Rattle.sv_model.specs.declared.records.FileStatus.TheVariants.{Live}
 use Rattle.sv_model.specs.declared.records.Top.{Top}
 use Rattle.sv_model.specs.Journal.{borne_by, of_family}
 use Rattle.sv_model.specs.Lists.{In, bit}
-use Rattle.sv_model.specs.Named.{HasFile, numbers_of, IsLive, memtable_live, list_live, version_live, UsesMemtable, UsesList, UsesVersion, NamedMemtable, NamedVersion, NamedFile}
-use Rattle.sv_model.specs.Registers.{entry, change, Has, GoesOn}
+use Rattle.sv_model.specs.Named.{numbers_of, IsLive, memtable_live, list_live, version_live, UsesMemtable, UsesList, UsesVersion, NamedMemtable, NamedVersion, NamedFile}
+use Rattle.sv_model.specs.Registers.{entry, change, GoesOn}
 use Rattle.sv_model.specs.After.{KeepsSuper, KeepsMemtable, KeepsList, KeepsVersion, KeepsNumber, KeepsFamily, After, KeepsSnapshot}
 use Rattle.sv_model.specs.Books.{Books}
 use Rattle.sv_model.specs.Numbers.{IsRegistered}
@@ -51,7 +51,13 @@ module _ (a b : Books) (k : Sound a) (s : ℕ) (x : SuperVersion) (h : IsCleaned
   N = b.files.numbers
 
   abbrev e : Books
-  e = record a { supers = S; memtables = b.memtables; lists = b.lists; versions = b.versions; files = record a.files { numbers = N } }
+  e = record a {
+    supers = S;
+    memtables = b.memtables;
+    lists = b.lists;
+    versions = b.versions;
+    files = record a.files { numbers = N };
+  }
 
   gm : GoesOn KeepsMemtable a.memtables b.memtables
   gm = h.memtables.goes
@@ -69,11 +75,17 @@ module _ (a b : Books) (k : Sound a) (s : ℕ) (x : SuperVersion) (h : IsCleaned
   gx m i = i
 
   -- what names something afterwards named it before
-  list_back : (n : ℕ) (z : MemtableList) → entry b.lists n ≡ Some z → z.live ≡ true → (w : MemtableList) × (entry a.lists n ≡ Some w) × (w.live ≡ true) × (z.members ≡ w.members)
-  list_back n z at live = let t = goes-back KeepsList a.lists b.lists gl h.lists.long n z at in (t.0, t.1, live-back t.0.live z.live t.2.gone live, t.2.members)
+  list_back : (n : ℕ) (z : MemtableList) → entry b.lists n ≡ Some z → z.live ≡ true
+      → (w : MemtableList) × (entry a.lists n ≡ Some w) × (w.live ≡ true) × (z.members ≡ w.members)
+  list_back n z at live =
+      let t = goes-back KeepsList a.lists b.lists gl h.lists.long n z at in
+      (t.0, t.1, live-back t.0.live z.live t.2.gone live, t.2.members)
 
-  version_back : (n : ℕ) (z : Version) → entry b.versions n ≡ Some z → z.live ≡ true → (w : Version) × (entry a.versions n ≡ Some w) × (w.live ≡ true) × (z.files ≡ w.files)
-  version_back n z at live = let t = goes-back KeepsVersion a.versions b.versions gv h.versions.long n z at in (t.0, t.1, live-back t.0.live z.live t.2.gone live, t.2.files)
+  version_back : (n : ℕ) (z : Version) → entry b.versions n ≡ Some z → z.live ≡ true
+      → (w : Version) × (entry a.versions n ≡ Some w) × (w.live ≡ true) × (z.files ≡ w.files)
+  version_back n z at live =
+      let t = goes-back KeepsVersion a.versions b.versions gv h.versions.long n z at in
+      (t.0, t.1, live-back t.0.live z.live t.2.gone live, t.2.files)
 
   memtable-named : (m : ℕ) → NamedMemtable S b.lists m → NamedMemtable a.supers a.lists m
   memtable-named m = ⊎_elim
@@ -84,13 +96,26 @@ module _ (a b : Books) (k : Sound a) (s : ℕ) (x : SuperVersion) (h : IsCleaned
   version-named v = ⊎_elim (λ w. inl (has-shrink (UsesVersion v) a.supers s y (λ u. not_live u.live) w)) (λ w. inr w)
 
   file-named : (n : ℕ) → NamedFile b.versions n → NamedFile a.versions n
-  file-named n w = let t = version_back w.0 w.1 w.2 w.3.live in (w.0, t.0, t.1, record { live = t.2; has = subst (λ l. In n (numbers_of l)) t.3 w.3.has })
+  file-named n w = let t = version_back w.0 w.1 w.2 w.3.live in (
+    w.0,
+    t.0,
+    t.1,
+    record {
+      live = t.2;
+      has = subst (λ l. In n (numbers_of l)) t.3 w.3.has;
+    },
+  )
 
   current_apart : (g i : ℕ) (t : Top) → slice_get a.tops g ≡ Some t → t.current ≡ Some i → i ≢ s
   current_apart g i t te cur q = h.free g t te (cur ∙ ap Some q)
 
   current_back : (g i : ℕ) (z : SuperVersion) → IsCurrent a.tops S g i z → IsCurrent a.tops a.supers g i z
-  current_back g i z c = record { top = c.top; at = c.at; is = c.is; has = sym (entry-else a.supers s i y (current_apart g i c.top c.at c.is)) ∙ c.has }
+  current_back g i z c = record {
+    top = c.top;
+    at = c.at;
+    is = c.is;
+    has = sym (entry-else a.supers s i y (current_apart g i c.top c.at c.is)) ∙ c.has;
+  }
 
   last_back : (g : ℕ) (m : FileMeta) → IsLastFile b.versions a.tops g m → IsLastFile a.versions a.tops g m
   last_back g m w =
@@ -124,14 +149,22 @@ module _ (a b : Books) (k : Sound a) (s : ℕ) (x : SuperVersion) (h : IsCleaned
       family_is = o.family_is;
       last_is = o.last_is;
       options_are = o.options_are;
-      greatest = λ n w p of_g. ⊎_elim (λ q. omega (arith, q.0, o.greatest s x h.at (ap (λ (u : SuperVersion). u.descriptor.family) (sym q.1) ∙ of_g))) (λ q. o.greatest n w q.1 of_g) (entry_change a.supers s n y w p);
+      greatest = λ n w p of_g. ⊎_elim
+          (λ q. omega (arith, q.0, o.greatest s x h.at (ap (λ (u : SuperVersion). u.descriptor.family) (sym q.1) ∙ of_g)))
+          (λ q. o.greatest n w q.1 of_g)
+          (entry_change a.supers s n y w p);
       ends = o.ends;
     };
     paired = law.paired;
     numbers = numbers-ended (NamedFile b.versions) a.files.numbers N h.numbers a.files.captured a.files.next law.numbers;
     metas = law.metas ∙ sym (files-captured_numbers (NamedFile b.versions) a.files.numbers N h.numbers);
     cuts = law.cuts;
-    snapshots = snapshots-kept a e law.snapshots (record { journal = continues-itself a.journal; snapshots = refl; lasts = λ g m i. inl (last_back g m i); awaited = λ g m i. inl i });
+    snapshots = snapshots-kept a e law.snapshots (record {
+      journal = continues-itself a.journal;
+      snapshots = refl;
+      lasts = λ g m i. inl (last_back g m i);
+      awaited = λ g m i. inl i;
+    });
     places = λ n z at live. ⊎_elim
         (λ q. not_live (sym (ap (λ (w : SuperVersion). w.live) q.1) ∙ live))
         (λ q. ((law.places n z q.1 live).0, λ j w p wl pl. ⊎_elim (λ u. not_live (sym (ap (λ (o : SuperVersion). o.live) u.1) ∙ wl)) (λ u. (law.places n z q.1 live).1 j w u.1 wl pl) (entry_change a.supers s j y w p)))
@@ -155,19 +188,27 @@ module _ (a b : Books) (k : Sound a) (s : ℕ) (x : SuperVersion) (h : IsCleaned
     };
   }
 
-  listed_law : (l m : ℕ) (z : MemtableList) → entry b.lists l ≡ Some z → In m z.members → IsListed b.memtables a.tops S m
+  listed_law : (l m : ℕ) (z : MemtableList) → entry b.lists l ≡ Some z → In m z.members
+      → IsListed b.memtables a.tops S m
   listed_law l m z at i =
       let t = goes-back KeepsList a.lists b.lists gl h.lists.long l z at in
       let o = k.steady.listed l m t.0 t.1 (subst (In m) t.2.members i) in
       let u = gm m o.it o.at in
-      record { it = u.0; at = u.1; before = λ j w c. o.before j w (subst (λ g. IsCurrent a.tops a.supers g j w) u.2.family (current_back u.0.family j w c)) }
+      record {
+        it = u.0;
+        at = u.1;
+        before = λ j w c. o.before j w (subst (λ g. IsCurrent a.tops a.supers g j w) u.2.family (current_back u.0.family j w c));
+      }
 
   sound : Sound e
   sound = record {
     lawful = lawful;
     steady = record {
       borne = λ i w at. borne-on (length a.memtables) (length a.families) (length b.memtables) (length a.families) w (omega (arith, h.memtables.long)) (omega arith) (k.steady.borne i w at);
-      supers_of = λ n r at. ⊎_elim (λ q. omega (arith, k.steady.supers_of s x h.at, ap (λ (u : SuperVersion). u.descriptor.family) q.1)) (λ q. k.steady.supers_of n r q.1) (entry_change a.supers s n y r at);
+      supers_of = λ n r at. ⊎_elim
+          (λ q. omega (arith, k.steady.supers_of s x h.at, ap (λ (u : SuperVersion). u.descriptor.family) q.1))
+          (λ q. k.steady.supers_of n r q.1)
+          (entry_change a.supers s n y r at);
       listed = listed_law;
       awaited = λ g n i z ca cur. awaited-on a.files.numbers N gn a.metas a.metas gx a.journal a.memtables b.memtables a.lists b.lists a.versions b.versions gm gl gv n z.descriptor (k.steady.awaited g n i z ca (current_back g i z cur));
       covers = k.steady.covers;
@@ -205,36 +246,63 @@ module _ (a b : Books) (k : Sound a) (s : ℕ) (x : SuperVersion) (h : IsCleaned
 
   -- a list that goes is that of the SuperVersion
   pub list-went : (l : ℕ) → IsLive list_live a.lists l → IsLive list_live b.lists l ⊎ (x.descriptor.list ≡ l)
-  list-went l w = ⊎_elim (λ o. inl ((h.lists.exact l).1 (w, o))) (λ o. inr o.is) (has-keep (UsesList l) a.supers s x y h.at ((law.lists l).0 w))
+  list-went l w =
+      ⊎_elim
+      (λ o. inl ((h.lists.exact l).1 (w, o)))
+      (λ o. inr o.is)
+      (has-keep (UsesList l) a.supers s x y h.at ((law.lists l).0 w))
 
   -- a memtable that goes is the active one, or a member of the list
-  pub memtable-went : (m : ℕ) → IsLive memtable_live a.memtables m → IsLive memtable_live b.memtables m ⊎ ((x.descriptor.active ≡ m) ⊎ ((z : MemtableList) × (entry a.lists x.descriptor.list ≡ Some z) × In m z.members))
+  pub memtable-went : (m : ℕ) → IsLive memtable_live a.memtables m
+      → IsLive memtable_live b.memtables m ⊎ ((x.descriptor.active ≡ m) ⊎ ((z : MemtableList) × (entry a.lists x.descriptor.list ≡ Some z) × In m z.members))
   memtable-went m w = ⊎_elim
       (λ o. ⊎_elim (λ u. inl ((h.memtables.exact m).1 (w, inl u))) (λ u. inr (inl u.is)) (has-keep (UsesMemtable m) a.supers s x y h.at o))
       (λ o. ⊎_elim
-      (λ u. inl ((h.memtables.exact m).1 (w, inr (o.0, u.it, u.at, record { live = u.live; has = (let t = gl o.0 o.1 o.2 in subst (In m) (ap (λ (q : MemtableList). q.members) (some (sym t.1 ∙ u.at))) (subst (In m) (sym t.2.members) o.3.has)) }))))
+      (λ u. inl ((h.memtables.exact m).1 (
+        w,
+        inr (
+          o.0,
+          u.it,
+          u.at,
+          record {
+            live = u.live;
+            has = (let t = gl o.0 o.1 o.2 in subst (In m) (ap (λ (q : MemtableList). q.members) (some (sym t.1 ∙ u.at))) (subst (In m) (sym t.2.members) o.3.has));
+          },
+        ),
+      )))
       (λ u. inr (inr (o.1, ap (entry a.lists) u ∙ o.2, o.3.has)))
       (list-went o.0 (record { it = o.1; at = o.2; live = o.3.live })))
       ((law.memtables m).0 w)
 
   -- a Version that goes is that of the SuperVersion
-  pub version-went : (v : ℕ) → IsLive version_live a.versions v → IsLive version_live b.versions v ⊎ (x.descriptor.version ≡ v)
+  pub version-went : (v : ℕ) → IsLive version_live a.versions v
+      → IsLive version_live b.versions v ⊎ (x.descriptor.version ≡ v)
   version-went v w = ⊎_elim
       (λ o. ⊎_elim (λ u. inl ((h.versions.exact v).1 (w, inl u))) (λ u. inr u.is) (has-keep (UsesVersion v) a.supers s x y h.at o))
       (λ o. inl ((h.versions.exact v).1 (w, inr o)))
       ((law.versions v).0 w)
 
   -- a file that becomes Obsolete is one of that Version
-  pub file-went : (n : ℕ) → IsRegistered a.files.numbers n Live → IsRegistered b.files.numbers n Live ⊎ ((v : Version) × (entry a.versions x.descriptor.version ≡ Some v) × In n (numbers_of v.files))
+  pub file-went : (n : ℕ) → IsRegistered a.files.numbers n Live
+      → IsRegistered b.files.numbers n Live ⊎ ((v : Version) × (entry a.versions x.descriptor.version ≡ Some v) × In n (numbers_of v.files))
   file-went n w =
       let o = (law.files n).0 w in
       ⊎_elim
-      (λ u. inl (files-live (NamedFile b.versions) a.files.numbers N h.numbers n w (o.0, u.it, u.at, record { live = u.live; has = (let t = gv o.0 o.1 o.2 in subst (λ (q : Version). In n (numbers_of q.files)) (some (sym t.1 ∙ u.at)) (subst (λ l. In n (numbers_of l)) (sym t.2.files) o.3.has)) })))
+      (λ u. inl (files-live (NamedFile b.versions) a.files.numbers N h.numbers n w (
+        o.0,
+        u.it,
+        u.at,
+        record {
+          live = u.live;
+          has = (let t = gv o.0 o.1 o.2 in subst (λ (q : Version). In n (numbers_of q.files)) (some (sym t.1 ∙ u.at)) (subst (λ l. In n (numbers_of l)) (sym t.2.files) o.3.has));
+        },
+      )))
       (λ u. inr (o.1, ap (entry a.versions) u ∙ o.2, o.3.has))
       (version-went o.0 (record { it = o.1; at = o.2; live = o.3.live }))
 
   -- no Live memtable is in a cell of one that went
-  pub went-free : (c : ℕ) → Went a.memtables b.memtables c → (m : ℕ) (z : Memtable) → entry b.memtables m ≡ Some z → z.live ≡ true → z.cell ≡ c → ⊥
+  pub went-free : (c : ℕ) → Went a.memtables b.memtables c → (m : ℕ) (z : Memtable) → entry b.memtables m ≡ Some z
+      → z.live ≡ true → z.cell ≡ c → ⊥
   went-free c w m z at live q =
       let t = goes-back KeepsMemtable a.memtables b.memtables gm h.memtables.long m z at in
       let same = (law.cells w.id w.it w.at w.was_live).1 m t.0 t.1 (live-back t.0.live z.live t.2.gone live) (sym t.2.cell ∙ q ∙ sym w.is) in

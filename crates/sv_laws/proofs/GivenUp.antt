@@ -1,35 +1,15 @@
 -- A capture is given up.
-use Rattle.std.proofs.Common.{◌≡◌, ◌≢◌, ◌<◌, ◌≤◌, ℕ, zero, suc, ◌+◌, ◌⊎◌, inl, inr, ⊎_elim, List, [], ◌∷◌, ◌++◌, length, Option, Some, None, refl, sym, ap, ◌∙◌, subst, arith}
-use Rattle.std.specs.Prelude.{slice_get, is_some}
-use mathlib.Core.Logic.{dite}
-use native.Mathlib.Decide.{ℕ_discrete}
-use Rattle.sv_model.specs.declared.records.SuperVersion.{SuperVersion}
-use Rattle.sv_model.specs.declared.records.Memtable.{Memtable}
-use Rattle.sv_model.specs.declared.records.MemtableList.{MemtableList}
-use Rattle.sv_model.specs.declared.records.Version.{Version}
-use Rattle.sv_model.specs.declared.records.FileMeta.{FileMeta}
-use Rattle.sv_model.specs.declared.records.RegisteredFile.{RegisteredFile}
+use Rattle.std.proofs.Common.{◌≡◌, ◌≤◌, ℕ, suc, inl, ⊎_elim, length, None, refl, sym, ap, ◌∙◌, subst, arith}
 use Rattle.sv_model.specs.declared.records.FileStatus.TheVariants.{Pending, Live, Obsolete, Grabbed, Gone}
-use Rattle.sv_model.specs.declared.records.Top.{Top}
-use Rattle.sv_model.specs.Lists.{In, same, bit, Every}
-use Rattle.sv_model.specs.Ranges.{reach_of}
-use Rattle.sv_model.specs.Journal.{borne_by}
-use Rattle.sv_model.specs.Registers.{entry, change}
-use Rattle.sv_model.specs.After.{KeepsNumber, After}
+use Rattle.sv_model.specs.Lists.{Every}
+use Rattle.sv_model.specs.After.{After}
 use Rattle.sv_model.specs.Books.{Books, FileRegister}
-use Rattle.sv_model.specs.Numbers.{NumbersStand, registered}
-use Rattle.sv_model.specs.Lawful.{Lawful}
-use Rattle.sv_model.specs.Described.{MembersJoin}
-use Rattle.sv_model.specs.Steady.{Sound, IsCurrent, IsAwaited}
-use Rattle.sv_model.proofs.Lists.{same_other, same-le, total-push}
-use Rattle.sv_model.proofs.Registers.{entry-old, entry-new, entry_push, entry-same, entry-else, entry_change, goes-push, length-change}
-use Rattle.sv_model.proofs.AfterLaws.{continues-itself, number-itself}
-use Rattle.sv_laws.specs.Captures.{IsFileCaptured, IsFlushBegun, IsMergePlanned, IsGivenUp}
-use Rattle.sv_laws.proofs.Items.{some, in_append, in-left, in-cons, in-none, none_some}
+use Rattle.sv_model.specs.Steady.{Sound}
+use Rattle.sv_model.proofs.Registers.{length-change}
+use Rattle.sv_model.proofs.AfterLaws.{continues-itself}
+use Rattle.sv_laws.specs.Captures.{IsGivenUp}
 use Rattle.sv_laws.proofs.Settled.{marked-goes, marked-keeps, marked_is, marked-captures, settled-captured, settled_other, numbers-settled, marked-captured_numbers}
-use Rattle.sv_laws.proofs.StillFits.{describes-on, last-on, awaited-on, join-le, join_reach}
-use Rattle.sv_laws.proofs.OpenFamilies.{of_f, says}
-use Rattle.sv_laws.proofs.FileChanges.{refiled, awaited-metas}
+use Rattle.sv_laws.proofs.FileChanges.{files-changed}
 
 pending_live : {A : Type 0} → Pending ≡ Live → A
 pending_live e = absurd (cc)
@@ -50,17 +30,23 @@ pub given-up : (a b : Books) (k : Sound a) (f n : ℕ) → IsGivenUp a b f n →
 given-up a b k f n h =
     let s = h.settled in
     let e : Books = record a { files = b.files } in
-    subst (λ (z : Books). Sound z × After a z) (sym h.is) (refiled a e k (record {
+    subst (λ (z : Books). Sound z × After a z) (sym h.is) (files-changed a e k (record {
       numbers = numbers-settled f n Obsolete a.files b.files s k.lawful.numbers (λ q. obsolete_pending q) (λ q. obsolete_grabbed q);
       goes = marked-goes n Pending Obsolete a.files.numbers b.files.numbers s.numbers (λ q. pending_gone q);
       metas = continues-itself a.metas;
       metas_are = k.lawful.metas ∙ sym (marked-captured_numbers n Pending Obsolete a.files.numbers b.files.numbers s.numbers);
       cuts = k.lawful.cuts;
-      clear = λ g m i. inl (record { captured_is = (settled_other f n Obsolete a.files b.files s g m.number i.captured_is).1; covered = i.covered });
+      clear = λ g m i. inl (record {
+        captured_is = (settled_other f n Obsolete a.files b.files s g m.number i.captured_is).1;
+        covered = i.covered;
+      });
       next = omega (arith, ap (λ (F : FileRegister). F.next) s.rest);
       live = λ m. (
         λ w. marked-keeps n Pending Obsolete a.files.numbers b.files.numbers s.numbers m Live (λ q. pending_live (sym q)) w,
-        λ w. ⊎_elim (λ o. o) (λ o. live_obsolete o.1) (marked_is n Pending Obsolete a.files.numbers b.files.numbers s.numbers m Live w),
+        λ w. ⊎_elim
+            (λ o. o)
+            (λ o. live_obsolete o.1)
+            (marked_is n Pending Obsolete a.files.numbers b.files.numbers s.numbers m Live w),
       );
       few = omega (arith, k.lawful.limits.captured, marked-captures n Pending Obsolete a.files.numbers b.files.numbers s.numbers);
       holds = subst (Every (λ i. i ≤ 255)) (ap (λ (F : FileRegister). F.holds) (sym s.rest)) k.lawful.limits.holds;

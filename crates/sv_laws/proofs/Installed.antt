@@ -1,9 +1,8 @@
 -- A SuperVersion becomes current: the books stay sound, and come after those before.
-use Rattle.std.proofs.Common.{◌≡◌, ◌≢◌, ◌<◌, ◌≤◌, ℕ, suc, ◌+◌, ◌⊎◌, inl, inr, ⊎_elim, true, false, Bool, ◌&&◌, ◌==◌, List, [], ◌∷◌, ◌++◌, length, take, drop, cond, Some, None, refl, sym, ap, ◌∙◌, subst, arith, ne_eqb, length-append}
-use Rattle.std.specs.Prelude.{slice_get, ◌↔◌}
+use Rattle.std.proofs.Common.{◌≡◌, ◌≢◌, ◌<◌, ◌≤◌, ℕ, suc, ◌+◌, ◌⊎◌, inl, inr, ⊎_elim, true, false, Bool, ◌&&◌, ◌==◌, List, [], ◌∷◌, ◌++◌, length, Some, None, refl, sym, ap, ◌∙◌, subst, arith, length-append}
+use Rattle.std.specs.Prelude.{slice_get}
 use mathlib.Core.Logic.{dite}
 use native.Mathlib.Decide.{ℕ_discrete}
-use Rattle.sv_model.specs.declared.writes.Write.{Write}
 use Rattle.sv_model.specs.declared.records.SuperVersion.{SuperVersion}
 use Rattle.sv_model.specs.declared.records.Descriptor.{Descriptor}
 use Rattle.sv_model.specs.declared.records.Memtable.{Memtable}
@@ -12,26 +11,23 @@ use Rattle.sv_model.specs.declared.records.Version.{Version}
 use Rattle.sv_model.specs.declared.records.FileMeta.{FileMeta}
 use Rattle.sv_model.specs.declared.records.Family.{Family}
 use Rattle.sv_model.specs.declared.records.Top.{Top}
-use Rattle.sv_model.specs.declared.records.FileStatus.TheVariants.{Pending, Live, Grabbed, Gone}
-use Rattle.sv_model.specs.Journal.{borne_by, of_family}
+use Rattle.sv_model.specs.declared.records.FileStatus.TheVariants.{Pending, Live}
 use Rattle.sv_model.specs.Lists.{In, total, bit, Every}
-use Rattle.sv_model.specs.Named.{HasMember, HasFile, numbers_of, IsLive, memtable_live, list_live, version_live, UsesMemtable, UsesList, UsesVersion, HasLast, NamedMemtable, NamedVersion}
-use Rattle.sv_model.specs.Registers.{entry, Has, GoesOn, EachEntry}
+use Rattle.sv_model.specs.Registers.{entry, GoesOn, EachEntry}
 use Rattle.sv_model.specs.After.{KeepsSuper, KeepsMemtable, KeepsList, KeepsVersion, KeepsNumber, KeepsFamily, After, KeepsSnapshot}
 use Rattle.sv_model.specs.Books.{Books, FileRegister}
 use Rattle.sv_model.specs.Families.{is_retired, IsDefault, InRange}
-use Rattle.sv_model.specs.Numbers.{NumbersStand, IsRegistered, captures}
+use Rattle.sv_model.specs.Numbers.{captures}
 use Rattle.sv_model.specs.Lawful.{Lawful}
-use Rattle.sv_model.specs.Described.{Describes, LastFits, FilesStand, BearsFrom, IsTop}
 use Rattle.sv_model.specs.Steady.{Sound, Steady, IsCurrent, IsListed, IsAwaited}
 use Rattle.sv_model.proofs.Lists.{total-push}
 use Rattle.sv_model.proofs.Registers.{entry-old, entry-new, entry_push, entry_le, goes-same, goes-push, length-change}
-use Rattle.sv_model.proofs.AfterLaws.{continues-itself, super-itself, memtable-itself, list-itself, version-itself, number-itself, family-itself, snapshot-itself}
+use Rattle.sv_model.proofs.AfterLaws.{continues-itself, super-itself, family-itself, snapshot-itself}
 use Rattle.sv_laws.specs.Currents.{Installs, IsNewMemtable, IsNewList, IsNewVersion}
 use Rattle.sv_laws.proofs.Items.{some, none_some}
-use Rattle.sv_laws.proofs.Growing.{grown_entry, grown-old, grown-goes, grown-has, grown-longer, grown-shorter, grown-total, placed_get, placed-goes, get_within, get-some}
-use Rattle.sv_laws.proofs.Settled.{marked-goes, marked-keeps, marked_is, marked-captures, settled-captured, settled-others, settled_other, numbers-settled}
-use Rattle.sv_laws.proofs.StillFits.{last-on, describes-on, awaited-on, reach-on, join-le, join_in}
+use Rattle.sv_laws.proofs.Growing.{grown_entry, grown-old, grown-longer, grown-shorter, grown-total, placed_get, placed-goes, get_within}
+use Rattle.sv_laws.proofs.Settled.{marked-captures, settled-captured}
+use Rattle.sv_laws.proofs.StillFits.{awaited-on, reach-on, join_in}
 use Rattle.sv_laws.proofs.InstallNames.{memtables-on, lists-on, versions-on, numbers-on, memtables_law, lists_law, versions_law, files_law}
 use Rattle.sv_laws.proofs.InstallFits.{descriptors_law, lasts_law, rows_law, tops_law, numbers_law, metas_law, snapshots_law, captured_back, captured_old}
 use Rattle.sv_laws.proofs.OpenFamilies.{current-top}
@@ -61,7 +57,15 @@ module _ (a b : Books) (k : Sound a) (f : ℕ) (r : Family) (x : SuperVersion) (
   PV = IsNewVersion b.files.numbers x.descriptor.version
 
   abbrev c : Books
-  c = record a { supers = S; memtables = b.memtables; lists = b.lists; versions = b.versions; files = b.files; families = b.families; tops = b.tops }
+  c = record a {
+    supers = S;
+    memtables = b.memtables;
+    lists = b.lists;
+    versions = b.versions;
+    files = b.files;
+    families = b.families;
+    tops = b.tops;
+  }
 
   law : Lawful a
   law = k.lawful
@@ -81,7 +85,8 @@ module _ (a b : Books) (k : Sound a) (f : ℕ) (r : Family) (x : SuperVersion) (
   gx : (m : FileMeta) → In m a.metas → In m a.metas
   gx m i = i
 
-  sup : (i : ℕ) (s : SuperVersion) → entry S i ≡ Some s → (entry a.supers i ≡ Some s) ⊎ ((i ≡ length a.supers + 1) × (s ≡ x))
+  sup : (i : ℕ) (s : SuperVersion) → entry S i ≡ Some s
+      → (entry a.supers i ≡ Some s) ⊎ ((i ≡ length a.supers + 1) × (s ≡ x))
   sup = entry_push a.supers x
 
   -- ---- places, cells, families
@@ -92,7 +97,8 @@ module _ (a b : Books) (k : Sound a) (f : ℕ) (r : Family) (x : SuperVersion) (
       (λ o. (omega (arith, h.room.within, ap (λ (w : SuperVersion). w.place) o.1), λ j z p zl q. ⊎_elim (λ u. absurd (h.room.free j z u zl (q ∙ ap (λ (w : SuperVersion). w.place) o.1))) (λ u. u.0 ∙ sym o.0) (sup j z p)))
       (sup n y e)
 
-  mem : (i : ℕ) (m : Memtable) → entry b.memtables i ≡ Some m → (entry a.memtables i ≡ Some m) ⊎ ((i ≡ length a.memtables + 1) × IsNewMemtable a f x.descriptor.active i m)
+  mem : (i : ℕ) (m : Memtable) → entry b.memtables i ≡ Some m
+      → (entry a.memtables i ≡ Some m) ⊎ ((i ≡ length a.memtables + 1) × IsNewMemtable a f x.descriptor.active i m)
   mem = grown_entry PM a.memtables b.memtables h.memtables
 
   cells_law : EachEntry (λ n y. y.live ≡ true → (y.cell < 64) × EachEntry (λ j z. z.live ≡ true → z.cell ≡ y.cell → j ≡ n) b.memtables) b.memtables
@@ -101,10 +107,12 @@ module _ (a b : Books) (k : Sound a) (f : ℕ) (r : Family) (x : SuperVersion) (
       (λ o. (o.1.room.within, λ j z p zl q. ⊎_elim (λ u. absurd (o.1.room.free j z u zl q)) (λ u. u.0 ∙ sym o.0) (mem j z p)))
       (mem n y e)
 
-  fam : (g : ℕ) (y : Family) → slice_get b.families g ≡ Some y → ((g ≡ f) × (y ≡ r)) ⊎ ((g ≢ f) × (slice_get a.families g ≡ Some y))
+  fam : (g : ℕ) (y : Family) → slice_get b.families g ≡ Some y
+      → ((g ≡ f) × (y ≡ r)) ⊎ ((g ≢ f) × (slice_get a.families g ≡ Some y))
   fam = placed_get a.families b.families f r h.families
 
-  distinct_law : (g i : ℕ) (y z : Family) → slice_get b.families g ≡ Some y → slice_get b.families i ≡ Some z → y.dropped ≡ false → z.dropped ≡ false → y.name ≡ z.name → g ≡ i
+  distinct_law : (g i : ℕ) (y z : Family) → slice_get b.families g ≡ Some y → slice_get b.families i ≡ Some z
+      → y.dropped ≡ false → z.dropped ≡ false → y.name ≡ z.name → g ≡ i
   distinct_law g i y z e w l₁ l₂ n = ⊎_elim
       (λ p. ⊎_elim (λ q. p.0 ∙ sym q.0) (λ q. absurd (h.name_free i z q.0 q.1 l₂ (ap (λ (u : Family). u.name) (sym p.1) ∙ n))) (fam i z w))
       (λ p. ⊎_elim (λ q. absurd (h.name_free g y p.0 p.1 l₁ (ap (λ (u : Family). u.name) (sym q.1) ∙ sym n))) (λ q. law.distinct g i y z p.1 q.1 l₁ l₂ n) (fam i z w))
@@ -112,8 +120,18 @@ module _ (a b : Books) (k : Sound a) (f : ℕ) (r : Family) (x : SuperVersion) (
 
   default_law : IsDefault b.families
   default_law = dite (ℕ_discrete 0 f)
-      (λ q. record { it = r; at = ap (slice_get b.families) q ∙ h.families.here; name_is = (h.was law.default.it (ap (slice_get a.families) (sym q) ∙ law.default.at)).0 ∙ law.default.name_is; stands = h.stands })
-      (λ q. record { it = law.default.it; at = h.families.others 0 q ∙ law.default.at; name_is = law.default.name_is; stands = law.default.stands })
+      (λ q. record {
+        it = r;
+        at = ap (slice_get b.families) q ∙ h.families.here;
+        name_is = (h.was law.default.it (ap (slice_get a.families) (sym q) ∙ law.default.at)).0 ∙ law.default.name_is;
+        stands = h.stands;
+      })
+      (λ q. record {
+        it = law.default.it;
+        at = h.families.others 0 q ∙ law.default.at;
+        name_is = law.default.name_is;
+        stands = law.default.stands;
+      })
 
   captures_same : captures b.files.numbers ≡ captures a.files.numbers
   captures_same = ⊎_elim
@@ -122,13 +140,19 @@ module _ (a b : Books) (k : Sound a) (f : ℕ) (r : Family) (x : SuperVersion) (
       h.files
 
   holds_same : b.files.holds ≡ a.files.holds
-  holds_same = ⊎_elim (λ q. ap (λ (F : FileRegister). F.holds) q) (λ o. ap (λ (F : FileRegister). F.holds) o.settled.rest) h.files
+  holds_same =
+      ⊎_elim
+      (λ q. ap (λ (F : FileRegister). F.holds) q)
+      (λ o. ap (λ (F : FileRegister). F.holds) o.settled.rest)
+      h.files
 
   jobs_same : b.files.jobs ≡ a.files.jobs
-  jobs_same = ⊎_elim (λ q. ap (λ (F : FileRegister). F.jobs) q) (λ o. ap (λ (F : FileRegister). F.jobs) o.settled.rest) h.files
+  jobs_same =
+      ⊎_elim (λ q. ap (λ (F : FileRegister). F.jobs) q) (λ o. ap (λ (F : FileRegister). F.jobs) o.settled.rest) h.files
 
   next_same : b.files.next ≡ a.files.next
-  next_same = ⊎_elim (λ q. ap (λ (F : FileRegister). F.next) q) (λ o. ap (λ (F : FileRegister). F.next) o.settled.rest) h.files
+  next_same =
+      ⊎_elim (λ q. ap (λ (F : FileRegister). F.next) q) (λ o. ap (λ (F : FileRegister). F.next) o.settled.rest) h.files
 
   lawful : Lawful c
   lawful = record {
@@ -158,20 +182,32 @@ module _ (a b : Books) (k : Sound a) (f : ℕ) (r : Family) (x : SuperVersion) (
       writes = law.limits.writes;
       holds = subst (Every (λ i. i ≤ 255)) (sym holds_same) law.limits.holds;
       jobs = omega (arith, law.limits.jobs, jobs_same);
-      options = λ g y e. ⊎_elim (λ q. subst (λ (u : Family). InRange u.options) (sym q.1) h.in_range) (λ q. law.limits.options g y q.1) (fam g y e);
+      options = λ g y e. ⊎_elim
+          (λ q. subst (λ (u : Family). InRange u.options) (sym q.1) h.in_range)
+          (λ q. law.limits.options g y q.1)
+          (fam g y e);
     };
   }
 
   -- ---- what the state keeps beside
 
-  current_back : (g s : ℕ) (y : SuperVersion) → IsCurrent b.tops S g s y → ((g ≡ f) × (y ≡ x)) ⊎ ((g ≢ f) × IsCurrent a.tops a.supers g s y)
+  current_back : (g s : ℕ) (y : SuperVersion) → IsCurrent b.tops S g s y
+      → ((g ≡ f) × (y ≡ x)) ⊎ ((g ≢ f) × IsCurrent a.tops a.supers g s y)
   current_back g s y cur = ⊎_elim
       (λ q.
       let s_is : s ≡ length a.supers + 1 = some (sym cur.is ∙ ap (λ (z : Top). z.current) q.1) in
       inl (q.0, some (sym cur.has ∙ entry-new a.supers x s s_is)))
       (λ q.
       let t = current-top a law g s cur.top q.1 cur.is in
-      inr (q.0, record { top = cur.top; at = q.1; is = cur.is; has = t.2.at ∙ (sym (entry-old a.supers (x ∷ []) s t.2.it t.2.at) ∙ cur.has) }))
+      inr (
+        q.0,
+        record {
+          top = cur.top;
+          at = q.1;
+          is = cur.is;
+          has = t.2.at ∙ (sym (entry-old a.supers (x ∷ []) s t.2.it t.2.at) ∙ cur.has);
+        },
+      ))
       (placed_get a.tops b.tops f top h.tops g cur.top cur.at)
 
   listed-on : (m : ℕ) → IsListed a.memtables a.tops a.supers m → IsListed b.memtables b.tops S m
@@ -187,7 +223,8 @@ module _ (a b : Books) (k : Sound a) (f : ℕ) (r : Family) (x : SuperVersion) (
         (current_back w.it.family s y cur);
   }
 
-  listed_law : (l m : ℕ) (z : MemtableList) → entry b.lists l ≡ Some z → In m z.members → IsListed b.memtables b.tops S m
+  listed_law : (l m : ℕ) (z : MemtableList) → entry b.lists l ≡ Some z → In m z.members
+      → IsListed b.memtables b.tops S m
   listed_law l m z e i = ⊎_elim
       (λ o. listed-on m (k.steady.listed l m z o i))
       (λ o.
@@ -204,7 +241,8 @@ module _ (a b : Books) (k : Sound a) (f : ℕ) (r : Family) (x : SuperVersion) (
       })
       (grown_entry PL a.lists b.lists h.lists l z e)
 
-  awaited_law : (g n s : ℕ) (y : SuperVersion) → slice_get b.files.captured g ≡ Some (Some n) → IsCurrent b.tops S g s y → IsAwaited a.journal b.memtables b.lists b.versions a.metas n y.descriptor
+  awaited_law : (g n s : ℕ) (y : SuperVersion) → slice_get b.files.captured g ≡ Some (Some n)
+      → IsCurrent b.tops S g s y → IsAwaited a.journal b.memtables b.lists b.versions a.metas n y.descriptor
   awaited_law g n s y e cur = ⊎_elim
       (λ q. subst (λ (w : SuperVersion). IsAwaited a.journal b.memtables b.lists b.versions a.metas n w.descriptor) (sym q.1) (h.awaited n (ap (slice_get b.files.captured) (sym q.0) ∙ e)))
       (λ q. awaited-on a.files.numbers b.files.numbers gn a.metas a.metas gx a.journal a.memtables b.memtables a.lists b.lists a.versions b.versions gm gl gv n y.descriptor (k.steady.awaited g n s y (sym (captured_back a b k f r x h g q.0) ∙ e) q.1))
@@ -224,10 +262,15 @@ module _ (a b : Books) (k : Sound a) (f : ℕ) (r : Family) (x : SuperVersion) (
         (λ o. absurd (let z : false ≡ true = ap (λ (b : Bool). b && (total bit r.handles == 0)) (sym h.stands) ∙ ap is_retired (sym o.1) ∙ q in cc))
         (λ o. k.steady.retired g y t o.1 (sym (h.tops.others g o.0) ∙ te) q)
         (fam g y ye);
-    busy = λ g n e. dite (ℕ_discrete g f) (λ q. omega (arith, q, get_within b.families f r h.families.here)) (λ q. omega (arith, k.steady.busy g n (sym (captured_back a b k f r x h g q) ∙ e), h.more));
+    busy = λ g n e. dite (ℕ_discrete g f)
+        (λ q. omega (arith, q, get_within b.families f r h.families.here))
+        (λ q. omega (arith, k.steady.busy g n (sym (captured_back a b k f r x h g q) ∙ e), h.more));
     captured = ⊎_elim (λ q. ap (λ (F : FileRegister). length F.captured) q) (λ o. ap length (settled-captured f o.number Live a.files b.files o.settled) ∙ length-change a.files.captured (suc f) None) h.files ∙ k.steady.captured;
     holds = ap length holds_same ∙ k.steady.holds;
-    handles = λ g y e. ⊎_elim (λ q. ap (λ (u : Family). length u.handles) q.1 ∙ h.handles) (λ q. k.steady.handles g y q.1) (fam g y e);
+    handles = λ g y e. ⊎_elim
+        (λ q. ap (λ (u : Family). length u.handles) q.1 ∙ h.handles)
+        (λ q. k.steady.handles g y q.1)
+        (fam g y e);
     memtables_made = omega (arith, k.steady.memtables_made, grown-shorter PM a.memtables b.memtables h.memtables, length-append a.supers (x ∷ []));
     lists_made = omega (arith, k.steady.lists_made, grown-shorter PL a.lists b.lists h.lists, length-append a.supers (x ∷ []));
     versions_made = omega (arith, k.steady.versions_made, grown-shorter PV a.versions b.versions h.versions, length-append a.supers (x ∷ []));
@@ -243,7 +286,10 @@ module _ (a b : Books) (k : Sound a) (f : ℕ) (r : Family) (x : SuperVersion) (
     numbers = gn;
     metas = continues-itself a.metas;
     next = omega (arith, next_same);
-    families = placed-goes a.families b.families f r h.families KeepsFamily family-itself (λ y e. let t = h.was y e in record { name = t.0; dropped = λ dr. absurd (let q : false ≡ true = sym t.1 ∙ dr in cc) });
+    families = placed-goes a.families b.families f r h.families KeepsFamily family-itself (λ y e. let t = h.was y e in record {
+      name = t.0;
+      dropped = λ dr. absurd (let q : false ≡ true = sym t.1 ∙ dr in cc);
+    });
     tops = λ g t e. dite (ℕ_discrete g f)
         (λ q. (
           top,
@@ -253,10 +299,18 @@ module _ (a b : Books) (k : Sound a) (f : ℕ) (r : Family) (x : SuperVersion) (
             ended = λ _ none. absurd (let had = h.had t (ap (slice_get a.tops) (sym q) ∙ e) in none_some had.0 (sym none ∙ had.1));
           },
         ))
-        (λ q. (t, h.tops.others g q ∙ e, record { reach = reach-on a.versions b.versions gv t.last; ended = λ _ none. none }));
+        (λ q. (
+          t,
+          h.tops.others g q ∙ e,
+          record {
+            reach = reach-on a.versions b.versions gv t.last;
+            ended = λ _ none. none;
+          },
+        ));
     rows = λ l m z e i. refl;
     snapshots = goes-same KeepsSnapshot a.snapshots snapshot-itself;
   }
 
   pub installed : Sound b × After a b
-  installed = subst (λ (z : Books). Sound z × After a z) (sym h.rest) (record { lawful = lawful; steady = steady }, after)
+  installed =
+      subst (λ (z : Books). Sound z × After a z) (sym h.rest) (record { lawful = lawful; steady = steady }, after)

@@ -31,3 +31,5 @@ pub mod Needs
 pub mod Rooms
 pub mod Opened
 pub mod Snapped
+pub mod Handles
+pub mod Kept

@@ -1,31 +1,28 @@
 -- In the midst of a cleanup: one memtable and one file looked at.
-use Rattle.std.proofs.Common.{◌≡◌, ◌≢◌, ◌<◌, ◌≤◌, ℕ, suc, ◌⊎◌, inl, inr, ⊎_elim, Bool, true, false, cond, List, [], ◌∷◌, ◌++◌, length, Option, Some, None, refl, sym, ap, ◌∙◌, subst, arith}
+use Rattle.std.proofs.Common.{◌≡◌, ◌≢◌, ◌<◌, ◌≤◌, ℕ, suc, ◌⊎◌, inl, inr, ⊎_elim, Bool, true, false, cond, List, [], ◌∷◌, ◌++◌, length, Some, refl, sym, ap, ◌∙◌, subst, arith}
 use Rattle.std.specs.Prelude.{slice_get, ◌↔◌}
 use mathlib.Core.Logic.{dite}
 use native.Mathlib.Decide.{ℕ_discrete}
-use Rattle.sv_model.specs.declared.records.SuperVersion.{SuperVersion}
 use Rattle.sv_model.specs.declared.records.Memtable.{Memtable}
 use Rattle.sv_model.specs.declared.records.MemtableList.{MemtableList}
 use Rattle.sv_model.specs.declared.records.Version.{Version}
 use Rattle.sv_model.specs.declared.records.RegisteredFile.{RegisteredFile}
 use Rattle.sv_model.specs.declared.records.FileStatus.TheVariants.{Live, Obsolete}
 use Rattle.sv_model.specs.Lists.{In, Distinct, total, times, same}
-use Rattle.sv_model.specs.Named.{HasMember, HasFile, numbers_of, IsLive, memtable_live, list_live, version_live, UsesMemtable, UsesList, UsesVersion, NamedMemtable, NamedVersion}
-use Rattle.sv_model.specs.Registers.{entry, change, Has, GoesOn, EachEntry}
-use Rattle.sv_model.specs.After.{KeepsMemtable, KeepsList, KeepsVersion}
-use Rattle.sv_model.specs.Books.{Books}
+use Rattle.sv_model.specs.Named.{HasMember, HasFile, numbers_of, IsLive, memtable_live}
+use Rattle.sv_model.specs.Registers.{entry, change, Has, EachEntry}
+use Rattle.sv_model.specs.After.{KeepsMemtable}
 use Rattle.sv_model.specs.Numbers.{registered}
-use Rattle.sv_model.specs.Steady.{Sound}
 use Rattle.sv_model.proofs.Lists.{times_in, in_times}
-use Rattle.sv_model.proofs.Registers.{entry-same, entry-else, entry_change, entry_push, total_entry, has_total, goes-same, goes-change, goes-on, length-change}
-use Rattle.sv_model.proofs.AfterLaws.{memtable-itself, list-itself, version-itself}
-use Rattle.sv_laws.specs.Midst.{Midst, MidstFiles, Frees, EndsList, EndsVersion}
+use Rattle.sv_model.proofs.Registers.{entry-same, entry-else, entry_change, entry_push, total_entry, has_total, goes-change, goes-on, length-change}
+use Rattle.sv_model.proofs.AfterLaws.{memtable-itself}
+use Rattle.sv_laws.specs.Midst.{Midst, MidstFiles}
 use Rattle.sv_laws.specs.Cleaning.{Went, Ends, EndsFiles}
 use Rattle.sv_laws.specs.Settling.{IsMarked}
 use Rattle.sv_laws.proofs.Items.{some, in-cons, in-none, in-left, in-right, in_append}
 use Rattle.sv_laws.proofs.Settled.{marked_entry}
 use Rattle.sv_laws.proofs.Metas.{once-at}
-use Rattle.sv_laws.proofs.Registers.{goes-back, has-shrink, has-keep, live-back, total-same}
+use Rattle.sv_laws.proofs.Registers.{goes-back, live-back, total-same}
 use Rattle.sv_laws.proofs.EndsLaws.{ends-of}
 
 not_live : {A : Type 0} → false ≡ true → A
@@ -38,7 +35,8 @@ false_of false h = refl
 -- ---- is it named at all
 
 -- whether a record is so, where a count tells
-has-or-not : {A : Type 0} (P : A → Type 0) (w : A → ℕ) (l : List A) → ((x : A) → 0 < w x → P x) → ((x : A) → P x → 0 < w x) → Has P l ⊎ (Has P l → ⊥)
+has-or-not : {A : Type 0} (P : A → Type 0) (w : A → ℕ) (l : List A) → ((x : A) → 0 < w x → P x)
+    → ((x : A) → P x → 0 < w x) → Has P l ⊎ (Has P l → ⊥)
 has-or-not P w l to from = dite (ℕ_discrete (total w l) 0)
     (λ q. inr (λ h. omega (arith, total_entry w l h.0 h.1 h.2, from h.1 h.3, q)))
     (λ q. inl (let h = has_total w l (omega arith) in (h.0, h.1, h.2, to h.1 h.3)))
@@ -67,10 +65,22 @@ module _ (Named : ℕ → Type 0) (old now : List Memtable) (m : ℕ) (left cell
   rest-of n here c = ⊎_elim (λ q. inl q) (λ i. ⊎_elim (λ q. inl (here q)) (λ j. inr j) (in-cons n m left i)) c
 
   pub midst-named : Named m → Midst Named old now left cells
-  midst-named p = record { long = h.long; goes = h.goes; live = λ n w. rest-of n (λ q. subst Named (sym q) p) (h.live n w); named = h.named; went = h.went }
+  midst-named p = record {
+    long = h.long;
+    goes = h.goes;
+    live = λ n w. rest-of n (λ q. subst Named (sym q) p) (h.live n w);
+    named = h.named;
+    went = h.went;
+  }
 
   pub midst-gone : (IsLive memtable_live now m → ⊥) → Midst Named old now left cells
-  midst-gone p = record { long = h.long; goes = h.goes; live = λ n w. rest-of n (λ q. absurd (p (subst (IsLive memtable_live now) q w))) (h.live n w); named = h.named; went = h.went }
+  midst-gone p = record {
+    long = h.long;
+    goes = h.goes;
+    live = λ n w. rest-of n (λ q. absurd (p (subst (IsLive memtable_live now) q w))) (h.live n w);
+    named = h.named;
+    went = h.went;
+  }
 
   module _ (it : Memtable) (at : entry now m ≡ Some it) (live : it.live ≡ true) (free : Named m → ⊥) (apart : EachEntry (λ n y. y.live ≡ true → EachEntry (λ k z. z.live ≡ true → z.cell ≡ y.cell → k ≡ n) old) old) where
     abbrev pub dead : Memtable
@@ -97,12 +107,36 @@ module _ (Named : ℕ → Type 0) (old now : List Memtable) (m : ℕ) (left cell
     exact : (c : ℕ) → In c (cells ++ it.cell ∷ []) ↔ Went old then c
     exact c = (
       λ i. ⊎_elim
-          (λ j. let w = (h.went.exact c).0 j in record { id = w.id; it = w.it; at = w.at; was_live = w.was_live; gone = λ u. w.gone (alive_back w.id u).1; is = w.is })
-          (λ j. record { id = m; it = was.0; at = was.1; was_live = was-live; gone = λ u. (alive_back m u).0 refl; is = sym was.2.cell ∙ sym (⊎_elim (λ q. q) (λ q. absurd (in-none c q)) (in-cons c it.cell [] j)) })
+          (λ j. let w = (h.went.exact c).0 j in record {
+            id = w.id;
+            it = w.it;
+            at = w.at;
+            was_live = w.was_live;
+            gone = λ u. w.gone (alive_back w.id u).1;
+            is = w.is;
+          })
+          (λ j. record {
+            id = m;
+            it = was.0;
+            at = was.1;
+            was_live = was-live;
+            gone = λ u. (alive_back m u).0 refl;
+            is = sym was.2.cell ∙ sym (⊎_elim (λ q. q) (λ q. absurd (in-none c q)) (in-cons c it.cell [] j));
+          })
           (in_append c cells (it.cell ∷ []) i),
       λ w. dite (ℕ_discrete w.id m)
-          (λ q. in-right c cells (it.cell ∷ []) (record { at = 0; is = ap Some (was.2.cell ∙ ap (λ (z : Memtable). z.cell) (some (sym was.1 ∙ ap (entry old) (sym q) ∙ w.at)) ∙ w.is) }))
-          (λ q. in-left c cells (it.cell ∷ []) ((h.went.exact c).1 (record { id = w.id; it = w.it; at = w.at; was_live = w.was_live; gone = λ u. w.gone (alive-on w.id q u); is = w.is }))),
+          (λ q. in-right c cells (it.cell ∷ []) (record {
+            at = 0;
+            is = ap Some (was.2.cell ∙ ap (λ (z : Memtable). z.cell) (some (sym was.1 ∙ ap (entry old) (sym q) ∙ w.at)) ∙ w.is);
+          }))
+          (λ q. in-left c cells (it.cell ∷ []) ((h.went.exact c).1 (record {
+            id = w.id;
+            it = w.it;
+            at = w.at;
+            was_live = w.was_live;
+            gone = λ u. w.gone (alive-on w.id q u);
+            is = w.is;
+          }))),
     )
 
     not-in : In it.cell cells → ⊥
@@ -111,7 +145,8 @@ module _ (Named : ℕ → Type 0) (old now : List Memtable) (m : ℕ) (left cell
         let q = apart m was.0 was.1 was-live w.id w.it w.at w.was_live (w.is ∙ was.2.cell) in
         w.gone (record { it = it; at = ap (entry now) q ∙ at; live = live })
 
-    place : (i c : ℕ) → slice_get (cells ++ it.cell ∷ []) i ≡ Some c → (slice_get cells i ≡ Some c) ⊎ ((i ≡ length cells) × (c ≡ it.cell))
+    place : (i c : ℕ) → slice_get (cells ++ it.cell ∷ []) i ≡ Some c
+        → (slice_get cells i ≡ Some c) ⊎ ((i ≡ length cells) × (c ≡ it.cell))
     place i c e = ⊎_elim (λ q. inl q) (λ q. inr (omega (arith, q.0), q.1)) (entry_push cells it.cell (suc i) c e)
 
     once : Distinct (cells ++ it.cell ∷ [])
@@ -124,19 +159,28 @@ module _ (Named : ℕ → Type 0) (old now : List Memtable) (m : ℕ) (left cell
     midst-ended = record {
       long = length-change now m dead ∙ h.long;
       goes = goes-on KeepsMemtable old now then (λ x y z p q. record { family = q.family ∙ p.family; first = q.first ∙ p.first; cell = q.cell ∙ p.cell; gone = λ e. q.gone (p.gone e) }) h.goes
-          (goes-change KeepsMemtable now m it dead memtable-itself at (record { family = refl; first = refl; cell = refl; gone = λ _. refl }));
+          (goes-change KeepsMemtable now m it dead memtable-itself at (record {
+            family = refl;
+            first = refl;
+            cell = refl;
+            gone = λ _. refl;
+          }));
       live = λ n w. let t = alive_back n w in rest-of n (λ q. absurd (t.0 q)) (h.live n t.1);
       named = λ n p. alive-on n (λ q. free (subst Named q p)) (h.named n p);
       went = record { exact = exact; once = once };
     }
 
 -- at the end
-pub midst-whole : (Named : ℕ → Type 0) (old now : List Memtable) (cells : List ℕ) → Midst Named old now [] cells → Ends KeepsMemtable memtable_live Named old now
-midst-whole Named old now cells h = ends-of KeepsMemtable memtable_live Named old now (λ x y r. r.gone) h.long h.goes (λ n. (λ w. ⊎_elim (λ q. q) (λ q. absurd (in-none n q)) (h.live n w), h.named n))
+pub midst-whole : (Named : ℕ → Type 0) (old now : List Memtable) (cells : List ℕ) → Midst Named old now [] cells
+    → Ends KeepsMemtable memtable_live Named old now
+midst-whole Named old now cells h =
+    ends-of KeepsMemtable memtable_live Named old now (λ x y r. r.gone) h.long h.goes (λ n. (λ w. ⊎_elim (λ q. q) (λ q. absurd (in-none n q)) (h.live n w), h.named n))
 
 -- ---- one file looked at
 
-pub midst-file : (Named : ℕ → Type 0) (old now then : List RegisteredFile) (n : ℕ) (left : List ℕ) → ((k : ℕ) → registered k old ≤ 1) → MidstFiles Named old now (n ∷ left) → (Named n → ⊥) → IsMarked n Live Obsolete now then → MidstFiles Named old then left
+pub midst-file : (Named : ℕ → Type 0) (old now then : List RegisteredFile) (n : ℕ) (left : List ℕ)
+    → ((k : ℕ) → registered k old ≤ 1) → MidstFiles Named old now (n ∷ left) → (Named n → ⊥)
+    → IsMarked n Live Obsolete now then → MidstFiles Named old then left
 midst-file Named old now then n left once h free mark = record {
   long = ap length mark.marked ∙ length-change now mark.at (record mark.it { status = Obsolete }) ∙ h.long;
   goes = λ i x e. let t = h.goes i x e in dite (ℕ_discrete i mark.at)
@@ -165,14 +209,26 @@ midst-file Named old now then n left once h free mark = record {
     sums k = total-same (λ x y. (y ≡ x) ⊎ ((y ≡ record x { status = Obsolete }) × (x.status ≡ Live) × (Named x.number → ⊥))) (λ x. same k x.number)
         (λ x y t. ⊎_elim (λ q. ap (λ (z : RegisteredFile). same k z.number) q) (λ q. ap (λ (z : RegisteredFile). same k z.number) q.0) t) old now h.long h.goes
 
-pub midst-files-whole : (Named : ℕ → Type 0) (old now : List RegisteredFile) → MidstFiles Named old now [] → EndsFiles Named old now
+pub midst-files-whole : (Named : ℕ → Type 0) (old now : List RegisteredFile) → MidstFiles Named old now []
+    → EndsFiles Named old now
 midst-files-whole Named old now h = record {
   long = h.long;
   goes = λ i x e. let t = h.goes i x e in (
     t.0,
     t.1,
     ⊎_elim
-        (λ q. inl (q, λ live. ⊎_elim (λ p. p) (λ p. absurd (in-none x.number p)) (h.live x.number (i, t.0, t.1, record { number_is = ap (λ (z : RegisteredFile). z.number) q; status_is = ap (λ (z : RegisteredFile). z.status) q ∙ live }))))
+        (λ q. inl (
+          q,
+          λ live. ⊎_elim (λ p. p) (λ p. absurd (in-none x.number p)) (h.live x.number (
+            i,
+            t.0,
+            t.1,
+            record {
+              number_is = ap (λ (z : RegisteredFile). z.number) q;
+              status_is = ap (λ (z : RegisteredFile). z.status) q ∙ live;
+            },
+          )),
+        ))
         (λ q. inr q)
         t.2,
   );

@@ -31,7 +31,8 @@ bits live (x ∷ l) = omega (arith, one (live x), bits live l)
     one true = omega arith
     one false = omega arith
 
-no-snapshot : (journal : List Write) (versions : List Version) (captured : List (Option ℕ)) (metas : List FileMeta) (tops : List Top) → SnapshotsStand journal versions captured metas tops []
+no-snapshot : (journal : List Write) (versions : List Version) (captured : List (Option ℕ)) (metas : List FileMeta) (tops : List Top)
+    → SnapshotsStand journal versions captured metas tops []
 no-snapshot journal versions captured metas tops = record {
   within = λ n s e. absurd (entry_none n s e);
   few = omega arith;
@@ -42,18 +43,27 @@ no-snapshot journal versions captured metas tops = record {
 
 module _ (b : Books) (h : IsOpening b) where
   -- an object of a register is that of a family
-  family-of : {A : Type 0} (l : List A) → length l ≡ length b.families → (n : ℕ) (x : A) → entry l n ≡ Some x → (i : ℕ) × (y : Family) × (n ≡ suc i) × (slice_get b.families i ≡ Some y) × (slice_get l i ≡ Some x)
+  family-of : {A : Type 0} (l : List A) → length l ≡ length b.families → (n : ℕ) (x : A) → entry l n ≡ Some x
+      → (i : ℕ) × (y : Family) × (n ≡ suc i) × (slice_get b.families i ≡ Some y) × (slice_get l i ≡ Some x)
   family-of l q zero x e = absurd (cc)
-  family-of l q (suc i) x e = let y = get-some b.families i (omega (arith, get_within l i x e, q)) in (i, y.0, refl, y.1, e)
+  family-of l q (suc i) x e =
+      let y = get-some b.families i (omega (arith, get_within l i x e, q)) in (i, y.0, refl, y.1, e)
 
-  super-of : (n : ℕ) (r : SuperVersion) → entry b.supers n ≡ Some r → (i : ℕ) × (y : Family) × (n ≡ suc i) × (slice_get b.families i ≡ Some y) × (r ≡ first_super b.journal i y.options)
-  super-of n r e = let t = family-of b.supers h.supers_made n r e in (t.0, t.1, t.2, t.3, some (sym t.4 ∙ h.supers t.0 t.1 t.3))
+  super-of : (n : ℕ) (r : SuperVersion) → entry b.supers n ≡ Some r
+      → (i : ℕ) × (y : Family) × (n ≡ suc i) × (slice_get b.families i ≡ Some y) × (r ≡ first_super b.journal i y.options)
+  super-of n r e =
+      let t = family-of b.supers h.supers_made n r e in (t.0, t.1, t.2, t.3, some (sym t.4 ∙ h.supers t.0 t.1 t.3))
 
-  memtable-of : (n : ℕ) (r : Memtable) → entry b.memtables n ≡ Some r → (i : ℕ) × (y : Family) × (n ≡ suc i) × (slice_get b.families i ≡ Some y) × (r ≡ first_memtable b.journal i)
-  memtable-of n r e = let t = family-of b.memtables h.memtables_made n r e in (t.0, t.1, t.2, t.3, some (sym t.4 ∙ h.memtables t.0 t.1 t.3))
+  memtable-of : (n : ℕ) (r : Memtable) → entry b.memtables n ≡ Some r
+      → (i : ℕ) × (y : Family) × (n ≡ suc i) × (slice_get b.families i ≡ Some y) × (r ≡ first_memtable b.journal i)
+  memtable-of n r e =
+      let t = family-of b.memtables h.memtables_made n r e in
+      (t.0, t.1, t.2, t.3, some (sym t.4 ∙ h.memtables t.0 t.1 t.3))
 
-  list-of : (n : ℕ) (r : MemtableList) → entry b.lists n ≡ Some r → (i : ℕ) × (y : Family) × (n ≡ suc i) × (slice_get b.families i ≡ Some y) × (r ≡ record { members = []; live = true })
-  list-of n r e = let t = family-of b.lists h.lists_made n r e in (t.0, t.1, t.2, t.3, some (sym t.4 ∙ h.lists t.0 t.1 t.3))
+  list-of : (n : ℕ) (r : MemtableList) → entry b.lists n ≡ Some r
+      → (i : ℕ) × (y : Family) × (n ≡ suc i) × (slice_get b.families i ≡ Some y) × (r ≡ record { members = []; live = true })
+  list-of n r e =
+      let t = family-of b.lists h.lists_made n r e in (t.0, t.1, t.2, t.3, some (sym t.4 ∙ h.lists t.0 t.1 t.3))
 
   no-member : (n m : ℕ) (r : MemtableList) → entry b.lists n ≡ Some r → In m r.members → ⊥
   no-member n m r e i = in-none m (subst (λ (u : MemtableList). In m u.members) (list-of n r e).4 i)
@@ -64,7 +74,8 @@ module _ (b : Books) (h : IsOpening b) where
   open-of : (i : ℕ) (y : Family) → slice_get b.families i ≡ Some y → is_retired y ≡ false
   open-of i y e = ap (λ c. c && (total bit y.handles == 0)) (h.stand i y e)
 
-  describes : (i : ℕ) (y : Family) → slice_get b.families i ≡ Some y → Describes b.journal b.memtables b.lists b.versions b.files.numbers b.metas (first_super b.journal i y.options).descriptor
+  describes : (i : ℕ) (y : Family) → slice_get b.families i ≡ Some y
+      → Describes b.journal b.memtables b.lists b.versions b.files.numbers b.metas (first_super b.journal i y.options).descriptor
   describes i y e = let v = h.versions i y e in record {
     active = first_memtable b.journal i;
     active_at = h.memtables i y e;
@@ -86,23 +97,45 @@ module _ (b : Books) (h : IsOpening b) where
       memtables = λ m. (
         λ w. let t = memtable-of m w.it w.at in inl (suc t.0, first_super b.journal t.0 t.1.options, h.supers t.0 t.1 t.3, record { live = refl; is = sym t.2 }),
         ⊎_elim
-            (λ w. let t = super-of w.0 w.1 w.2 in let q : suc t.0 ≡ m = ap (λ (r : SuperVersion). r.descriptor.active) (sym t.4) ∙ w.3.is in record { it = first_memtable b.journal t.0; at = ap (entry b.memtables) (sym q) ∙ h.memtables t.0 t.1 t.3; live = refl })
+            (λ w. let t = super-of w.0 w.1 w.2 in let q : suc t.0 ≡ m = ap (λ (r : SuperVersion). r.descriptor.active) (sym t.4) ∙ w.3.is in record {
+              it = first_memtable b.journal t.0;
+              at = ap (entry b.memtables) (sym q) ∙ h.memtables t.0 t.1 t.3;
+              live = refl;
+            })
             (λ w. absurd (no-member w.0 m w.1 w.2 w.3.has)),
       );
       lists = λ l. (
         λ w. let t = list-of l w.it w.at in (suc t.0, first_super b.journal t.0 t.1.options, h.supers t.0 t.1 t.3, record { live = refl; is = sym t.2 }),
-        λ w. let t = super-of w.0 w.1 w.2 in let q : suc t.0 ≡ l = ap (λ (r : SuperVersion). r.descriptor.list) (sym t.4) ∙ w.3.is in record { it = record { members = []; live = true }; at = ap (entry b.lists) (sym q) ∙ h.lists t.0 t.1 t.3; live = refl },
+        λ w. let t = super-of w.0 w.1 w.2 in let q : suc t.0 ≡ l = ap (λ (r : SuperVersion). r.descriptor.list) (sym t.4) ∙ w.3.is in record {
+          it = record { members = []; live = true };
+          at = ap (entry b.lists) (sym q) ∙ h.lists t.0 t.1 t.3;
+          live = refl;
+        },
       );
       versions = λ v. (
         λ w. let t = family-of b.versions h.versions_made v w.it w.at in inl (suc t.0, first_super b.journal t.0 t.1.options, h.supers t.0 t.1 t.3, record { live = refl; is = sym t.2 }),
         ⊎_elim
-            (λ w. let t = super-of w.0 w.1 w.2 in let q : suc t.0 ≡ v = ap (λ (r : SuperVersion). r.descriptor.version) (sym t.4) ∙ w.3.is in let u = h.versions t.0 t.1 t.3 in record { it = u.it; at = ap (entry b.versions) (sym q) ∙ u.at; live = u.live })
-            (λ w. let u = h.versions w.id w.family w.at in let q : suc w.id ≡ v = ap (λ (r : Top). r.last) (some (sym (h.tops w.id w.family w.at) ∙ w.on)) ∙ w.is in record { it = u.it; at = ap (entry b.versions) (sym q) ∙ u.at; live = u.live }),
+            (λ w. let t = super-of w.0 w.1 w.2 in let q : suc t.0 ≡ v = ap (λ (r : SuperVersion). r.descriptor.version) (sym t.4) ∙ w.3.is in let u = h.versions t.0 t.1 t.3 in record {
+              it = u.it;
+              at = ap (entry b.versions) (sym q) ∙ u.at;
+              live = u.live;
+            })
+            (λ w. let u = h.versions w.id w.family w.at in let q : suc w.id ≡ v = ap (λ (r : Top). r.last) (some (sym (h.tops w.id w.family w.at) ∙ w.on)) ∙ w.is in record {
+              it = u.it;
+              at = ap (entry b.versions) (sym q) ∙ u.at;
+              live = u.live;
+            }),
       );
       files = h.files;
       descriptors = λ n r e live. let t = super-of n r e in subst (λ (w : SuperVersion). Describes b.journal b.memtables b.lists b.versions b.files.numbers b.metas w.descriptor) (sym t.4) (describes t.0 t.1 t.3);
       lasts = λ f t te. let y = get-some b.families f (omega (arith, get_within b.tops f t te, h.tops_made)) in let v = h.versions f y.0 y.1 in
-          record { version = v.it; at = ap (λ (u : Top). entry b.versions u.last) (some (sym te ∙ h.tops f y.0 y.1)) ∙ v.at; to = length (of_family f b.journal); files = v.files; within = omega arith };
+          record {
+            version = v.it;
+            at = ap (λ (u : Top). entry b.versions u.last) (some (sym te ∙ h.tops f y.0 y.1)) ∙ v.at;
+            to = length (of_family f b.journal);
+            files = v.files;
+            within = omega arith;
+          };
       rows = λ m r e. let t = memtable-of m r e in let no = none m (omega (arith, t.2)) in record {
         within = omega (arith, ap (λ (u : Memtable). u.first) t.4, ap (λ (u : Memtable). length (of_family u.family b.journal)) t.4);
         rows = no ∙ sym (ap (λ (l : List Write). take (length l) (drop r.first (of_family r.family b.journal))) no);
@@ -166,7 +199,12 @@ replicated a (suc n) zero b e = sym (some e)
 replicated a (suc n) (suc i) b e = replicated a n i b e
 
 first_range : InRange first_options
-first_range = record { rows_least = omega arith; rows_most = omega arith; lists_least = omega arith; lists_most = omega arith }
+first_range = record {
+  rows_least = omega arith;
+  rows_most = omega arith;
+  lists_least = omega arith;
+  lists_most = omega arith;
+}
 
 abbrev first_family : Family
 first_family = record { name = default_name; options = first_options; dropped = false; handles = replicate 32 true }
@@ -175,7 +213,8 @@ uncaptured : (f n : ℕ) → slice_get (replicate 16 None) f ≡ Some (Some n) �
 uncaptured f n e = none_some n (sym (replicated None 16 f (Some n) e))
 
 -- what a family of it has at its place
-at-first : {A : Type 0} (P : ℕ → Family → A) (x : A) (i : ℕ) (y : Family) → slice_get (first_family ∷ []) i ≡ Some y → P 0 first_family ≡ x → slice_get (x ∷ []) i ≡ Some (P i y)
+at-first : {A : Type 0} (P : ℕ → Family → A) (x : A) (i : ℕ) (y : Family) → slice_get (first_family ∷ []) i ≡ Some y
+    → P 0 first_family ≡ x → slice_get (x ∷ []) i ≡ Some (P i y)
 at-first P x i y e q =
     let t = get_one first_family i y e in
     ap (slice_get (x ∷ [])) t.0 ∙ ap Some (sym q ∙ (λ j. P (sym t.0 j) (sym t.1 j)))

@@ -18,7 +18,7 @@ use Rattle.sv_model.proofs.Registers.{entry-old, entry_push, goes-same, goes-pus
 use Rattle.sv_model.proofs.AfterLaws.{continues-itself, number-itself}
 use Rattle.sv_laws.specs.Purges.{IsPurgeStep, ChangesGrabbed, IsStray, ChangesHolds}
 use Rattle.sv_laws.proofs.Registers.{goes-back, total-same}
-use Rattle.sv_laws.proofs.FileChanges.{refiled}
+use Rattle.sv_laws.proofs.FileChanges.{files-changed}
 
 -- ---- numbers grabbed and given back
 
@@ -63,13 +63,21 @@ module _ (a b : Books) (k : Sound a) (h : ChangesGrabbed a b) where
       clash₆ : Live ≡ Gone → ⊥
       clash₆ e = absurd (cc)
 
-  after_fixed : (x y : RegisteredFile) → (y ≡ x) ⊎ IsPurgeStep a.files.captured x y → (y.status ≡ Pending) ⊎ (y.status ≡ Live) → y ≡ x
-  after_fixed x y t s = ⊎_elim (λ q. q) (λ q. absurd (fixed y.status s (⊎_elim (λ o. inr (inl o.1)) (λ o. ⊎_elim (λ u. inr (inr u)) (λ u. inl u) o.1) q.status))) t
+  after_fixed : (x y : RegisteredFile) → (y ≡ x) ⊎ IsPurgeStep a.files.captured x y
+      → (y.status ≡ Pending) ⊎ (y.status ≡ Live) → y ≡ x
+  after_fixed x y t s =
+      ⊎_elim
+      (λ q. q)
+      (λ q. absurd (fixed y.status s (⊎_elim (λ o. inr (inl o.1)) (λ o. ⊎_elim (λ u. inr (inr u)) (λ u. inl u) o.1) q.status)))
+      t
 
-  before_fixed : (x y : RegisteredFile) → (y ≡ x) ⊎ IsPurgeStep a.files.captured x y → (x.status ≡ Pending) ⊎ (x.status ≡ Live) → y ≡ x
-  before_fixed x y t s = ⊎_elim (λ q. q) (λ q. absurd (fixed x.status s (⊎_elim (λ o. inl o.0) (λ o. inr (inl o.0)) q.status))) t
+  before_fixed : (x y : RegisteredFile) → (y ≡ x) ⊎ IsPurgeStep a.files.captured x y
+      → (x.status ≡ Pending) ⊎ (x.status ≡ Live) → y ≡ x
+  before_fixed x y t s =
+      ⊎_elim (λ q. q) (λ q. absurd (fixed x.status s (⊎_elim (λ o. inl o.0) (λ o. inr (inl o.0)) q.status))) t
 
-  back : (i : ℕ) (y : RegisteredFile) → entry b.files.numbers i ≡ Some y → (x : RegisteredFile) × (entry a.files.numbers i ≡ Some x) × ((y ≡ x) ⊎ IsPurgeStep a.files.captured x y)
+  back : (i : ℕ) (y : RegisteredFile) → entry b.files.numbers i ≡ Some y
+      → (x : RegisteredFile) × (entry a.files.numbers i ≡ Some x) × ((y ≡ x) ⊎ IsPurgeStep a.files.captured x y)
   back = goes-back R a.files.numbers b.files.numbers h.goes h.long
 
   numbers : NumbersStand b.files.numbers a.files.captured a.files.next
@@ -79,8 +87,16 @@ module _ (a b : Books) (k : Sound a) (h : ChangesGrabbed a b) where
     pending = λ i y at p. let t = back i y at in let u = after_fixed t.0 y t.2 (inl p) in
         let w = law.pending i t.0 t.1 (ap (λ (z : RegisteredFile). z.status) (sym u) ∙ p) in
         (w.0, family_is t.0 y t.2 ∙ w.1, w.2 ∙ ap (λ (z : RegisteredFile). Some (Some z.number)) (sym u));
-    held = λ f n q. let w = law.held f n q in let t = h.goes w.0 w.1 w.2 in let u = before_fixed w.1 t.0 t.2 (inl w.3.status_is) in
-        (w.0, t.0, t.1, record { number_is = number_is w.1 t.0 t.2 ∙ w.3.number_is; status_is = ap (λ (z : RegisteredFile). z.status) u ∙ w.3.status_is; family_is = family_is w.1 t.0 t.2 ∙ w.3.family_is });
+    held = λ f n q. let w = law.held f n q in let t = h.goes w.0 w.1 w.2 in let u = before_fixed w.1 t.0 t.2 (inl w.3.status_is) in (
+      w.0,
+      t.0,
+      t.1,
+      record {
+        number_is = number_is w.1 t.0 t.2 ∙ w.3.number_is;
+        status_is = ap (λ (z : RegisteredFile). z.status) u ∙ w.3.status_is;
+        family_is = family_is w.1 t.0 t.2 ∙ w.3.family_is;
+      },
+    );
     drawn = λ i y at p. let t = back i y at in
         omega (arith, law.drawn i t.0 t.1 (ap is_some (sym (family_is t.0 y t.2)) ∙ p), number_is t.0 y t.2);
     grabbed = λ i y at p f n q. let t = back i y at in ⊎_elim
@@ -92,16 +108,43 @@ module _ (a b : Books) (k : Sound a) (h : ChangesGrabbed a b) where
   }
 
   pub grabbed-changed : Sound b × After a b
-  grabbed-changed = subst (λ (z : Books). Sound z × After a z) (sym h.is) (refiled a e k (record {
+  grabbed-changed = subst (λ (z : Books). Sound z × After a z) (sym h.is) (files-changed a e k (record {
     numbers = numbers;
-    goes = λ n x at. let t = h.goes n x at in (t.0, t.1, record { number = number_is x t.0 t.2; family = family_is x t.0 t.2; gone = λ g. ⊎_elim (λ q. ap (λ (z : RegisteredFile). z.status) q ∙ g) (λ q. ⊎_elim (λ o. obsolete_gone (sym o.0 ∙ g)) (λ o. grabbed_gone (sym o.0 ∙ g)) q.status) t.2 });
+    goes = λ n x at. let t = h.goes n x at in (
+      t.0,
+      t.1,
+      record {
+        number = number_is x t.0 t.2;
+        family = family_is x t.0 t.2;
+        gone = λ g. ⊎_elim
+            (λ q. ap (λ (z : RegisteredFile). z.status) q ∙ g)
+            (λ q. ⊎_elim (λ o. obsolete_gone (sym o.0 ∙ g)) (λ o. grabbed_gone (sym o.0 ∙ g)) q.status)
+            t.2;
+      },
+    );
     metas = continues-itself a.metas;
     metas_are = k.lawful.metas ∙ sym (captured_numbers-goes R (λ x y t. (number_is x y t, family_is x y t)) a.files.numbers b.files.numbers h.long h.goes);
     cuts = k.lawful.cuts;
     next = omega arith;
     live = λ n. (
-      λ w. let t = h.goes w.0 w.1 w.2 in let u = before_fixed w.1 t.0 t.2 (inr w.3.status_is) in (w.0, t.0, t.1, record { number_is = number_is w.1 t.0 t.2 ∙ w.3.number_is; status_is = ap (λ (z : RegisteredFile). z.status) u ∙ w.3.status_is }),
-      λ w. let t = back w.0 w.1 w.2 in let u = after_fixed t.0 w.1 t.2 (inr w.3.status_is) in (w.0, t.0, t.1, record { number_is = ap (λ (z : RegisteredFile). z.number) (sym u) ∙ w.3.number_is; status_is = ap (λ (z : RegisteredFile). z.status) (sym u) ∙ w.3.status_is }),
+      λ w. let t = h.goes w.0 w.1 w.2 in let u = before_fixed w.1 t.0 t.2 (inr w.3.status_is) in (
+        w.0,
+        t.0,
+        t.1,
+        record {
+          number_is = number_is w.1 t.0 t.2 ∙ w.3.number_is;
+          status_is = ap (λ (z : RegisteredFile). z.status) u ∙ w.3.status_is;
+        },
+      ),
+      λ w. let t = back w.0 w.1 w.2 in let u = after_fixed t.0 w.1 t.2 (inr w.3.status_is) in (
+        w.0,
+        t.0,
+        t.1,
+        record {
+          number_is = ap (λ (z : RegisteredFile). z.number) (sym u) ∙ w.3.number_is;
+          status_is = ap (λ (z : RegisteredFile). z.status) (sym u) ∙ w.3.status_is;
+        },
+      ),
     );
     few = omega (arith, k.lawful.limits.captured, total-same R (λ x. bit (is_some x.family)) (λ x y t. ap (λ f. bit (is_some f)) (family_is x y t)) a.files.numbers b.files.numbers h.long h.goes);
     holds = k.lawful.limits.holds;
@@ -128,16 +171,28 @@ strayed a b k n h =
     let y : RegisteredFile = record { number = n; status = Grabbed; family = None } in
     let law = k.lawful.numbers in
     let e : Books = record a { files = record a.files { numbers = a.files.numbers ++ y ∷ [] } } in
-    subst (λ (z : Books). Sound z × After a z) (sym h.is) (refiled a e k (record {
+    subst (λ (z : Books). Sound z × After a z) (sym h.is) (files-changed a e k (record {
       numbers = record {
         once = λ m. dite (ℕ_discrete m n)
             (λ q. omega (arith, total-push (λ (x : RegisteredFile). same m x.number) a.files.numbers y, same-le m n, h.new, ap (λ i. registered i a.files.numbers) q))
             (λ q. omega (arith, law.once m, total-push (λ (x : RegisteredFile). same m x.number) a.files.numbers y, same_other m n q));
-        below = λ i x at. ⊎_elim (λ o. law.below i x o) (λ o. omega (arith, h.below, ap (λ (z : RegisteredFile). z.number) o.1)) (entry_push a.files.numbers y i x at);
-        pending = λ i x at p. ⊎_elim (λ o. law.pending i x o p) (λ o. grabbed_pending (ap (λ (z : RegisteredFile). z.status) (sym o.1) ∙ p)) (entry_push a.files.numbers y i x at);
+        below = λ i x at. ⊎_elim
+            (λ o. law.below i x o)
+            (λ o. omega (arith, h.below, ap (λ (z : RegisteredFile). z.number) o.1))
+            (entry_push a.files.numbers y i x at);
+        pending = λ i x at p. ⊎_elim
+            (λ o. law.pending i x o p)
+            (λ o. grabbed_pending (ap (λ (z : RegisteredFile). z.status) (sym o.1) ∙ p))
+            (entry_push a.files.numbers y i x at);
         held = λ g m q. let w = law.held g m q in (w.0, w.1, entry-old a.files.numbers (y ∷ []) w.0 w.1 w.2, w.3);
-        drawn = λ i x at p. ⊎_elim (λ o. law.drawn i x o p) (λ o. false_true (ap (λ (z : RegisteredFile). is_some z.family) (sym o.1) ∙ p)) (entry_push a.files.numbers y i x at);
-        grabbed = λ i x at p g m q. ⊎_elim (λ o. law.grabbed i x o p g m q) (λ o. omega (arith, h.low g m q, ap (λ (z : RegisteredFile). z.number) o.1)) (entry_push a.files.numbers y i x at);
+        drawn = λ i x at p. ⊎_elim
+            (λ o. law.drawn i x o p)
+            (λ o. false_true (ap (λ (z : RegisteredFile). is_some z.family) (sym o.1) ∙ p))
+            (entry_push a.files.numbers y i x at);
+        grabbed = λ i x at p g m q. ⊎_elim
+            (λ o. law.grabbed i x o p g m q)
+            (λ o. omega (arith, h.low g m q, ap (λ (z : RegisteredFile). z.number) o.1))
+            (entry_push a.files.numbers y i x at);
         least = law.least;
         most = law.most;
       };
@@ -148,7 +203,10 @@ strayed a b k n h =
       next = omega arith;
       live = λ m. (
         λ w. (w.0, w.1, entry-old a.files.numbers (y ∷ []) w.0 w.1 w.2, w.3),
-        λ w. ⊎_elim (λ o. (w.0, w.1, o, w.3)) (λ o. grabbed_live (ap (λ (z : RegisteredFile). z.status) (sym o.1) ∙ w.3.status_is)) (entry_push a.files.numbers y w.0 w.1 w.2),
+        λ w. ⊎_elim
+            (λ o. (w.0, w.1, o, w.3))
+            (λ o. grabbed_live (ap (λ (z : RegisteredFile). z.status) (sym o.1) ∙ w.3.status_is))
+            (entry_push a.files.numbers y w.0 w.1 w.2),
       );
       few = omega (arith, k.lawful.limits.captured, total-push (λ (x : RegisteredFile). bit (is_some x.family)) a.files.numbers y);
       holds = k.lawful.limits.holds;
@@ -174,7 +232,7 @@ strayed a b k n h =
 pub holds-changed : (a b : Books) (k : Sound a) → ChangesHolds a b → Sound b × After a b
 holds-changed a b k h =
     let e : Books = record a { files = record a.files { holds = b.files.holds; jobs = b.files.jobs } } in
-    subst (λ (z : Books). Sound z × After a z) (sym h.is) (refiled a e k (record {
+    subst (λ (z : Books). Sound z × After a z) (sym h.is) (files-changed a e k (record {
       numbers = k.lawful.numbers;
       goes = goes-same KeepsNumber a.files.numbers number-itself;
       metas = continues-itself a.metas;

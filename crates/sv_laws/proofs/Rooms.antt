@@ -19,15 +19,28 @@ below k n h = grind (arith, common_steps)
 
 -- the fault of a registry's `make`, as sv_registry has it
 abbrev pub make_fault : List SuperVersion → Option Refusal
-make_fault supers = cond (nat_le 1048576 (length supers)) (Some RegisterFull) (cond (nat_le 256 (live_count super_live supers)) (Some TooManyLive) None)
+make_fault supers =
+    cond (nat_le 1048576 (length supers)) (Some RegisterFull) (cond (nat_le 256 (live_count super_live supers)) (Some TooManyLive) None)
 
-pub room-made : (supers : List SuperVersion) (place : ℕ) → make_fault supers ≡ None → place < 256 → IsLeastFree super_live (λ s. s.place) supers place → HasRoom supers place
+pub room-made : (supers : List SuperVersion) (place : ℕ) → make_fault supers ≡ None → place < 256
+    → IsLeastFree super_live (λ s. s.place) supers place → HasRoom supers place
 room-made supers place none within least =
     let f = not-due (nat_le 1048576 (length supers)) RegisterFull (cond (nat_le 256 (live_count super_live supers)) (Some TooManyLive) None) none in
     let g = not-due (nat_le 256 (live_count super_live supers)) TooManyLive None f.1 in
-    record { few = below 1048576 (length supers) f.0; few_live = below 256 (live_count super_live supers) g.0; within = within; free = λ n s e l p. least.free (n, s, e, record { is_live = l; at = p }) }
+    record {
+      few = below 1048576 (length supers) f.0;
+      few_live = below 256 (live_count super_live supers) g.0;
+      within = within;
+      free = λ n s e l p. least.free (n, s, e, record { is_live = l; at = p });
+    }
 
-pub cell-made : (memtables : List Memtable) (cell : ℕ) → cond (nat_le 64 (live_count memtable_live memtables)) (Some TooManyMemtables) None ≡ None → cell < 64 → IsLeastFree memtable_live (λ m. m.cell) memtables cell → HasCell memtables cell
+pub cell-made : (memtables : List Memtable) (cell : ℕ)
+    → cond (nat_le 64 (live_count memtable_live memtables)) (Some TooManyMemtables) None ≡ None → cell < 64
+    → IsLeastFree memtable_live (λ m. m.cell) memtables cell → HasCell memtables cell
 cell-made memtables cell none within least =
     let g = not-due (nat_le 64 (live_count memtable_live memtables)) TooManyMemtables None none in
-    record { few = below 64 (live_count memtable_live memtables) g.0; within = within; free = λ n m e l p. least.free (n, m, e, record { is_live = l; at = p }) }
+    record {
+      few = below 64 (live_count memtable_live memtables) g.0;
+      within = within;
+      free = λ n m e l p. least.free (n, m, e, record { is_live = l; at = p });
+    }

@@ -1,8 +1,7 @@
 -- Snapshots are taken and released.
-use Rattle.std.proofs.Common.{◌≡◌, ◌<◌, ◌≤◌, ℕ, zero, suc, inl, inr, ⊎_elim, true, false, List, [], ◌∷◌, ◌++◌, length, take, Some, refl, sym, ap, ◌∙◌, subst, arith, length-append}
+use Rattle.std.proofs.Common.{◌≡◌, ◌<◌, ◌≤◌, ℕ, zero, suc, inl, inr, ⊎_elim, true, false, List, [], ◌∷◌, ◌++◌, length, Some, refl, sym, ap, ◌∙◌, subst, arith, length-append}
 use Rattle.std.proofs.lemmas.List.{take_all}
 use Rattle.std.specs.Prelude.{slice_get}
-use Rattle.sv_model.specs.declared.writes.Write.{Write}
 use Rattle.sv_model.specs.declared.records.Version.{Version}
 use Rattle.sv_model.specs.declared.records.FileMeta.{FileMeta}
 use Rattle.sv_model.specs.declared.records.Snapshot.{Snapshot}
@@ -20,14 +19,17 @@ use Rattle.sv_model.proofs.AfterLaws.{after-itself, snapshot-itself}
 use Rattle.sv_laws.specs.Snapping.{IsSnapped, IsUnsnapped}
 use Rattle.sv_laws.proofs.Items.{some}
 
-join-within : (files : List FileMeta) (from to : ℕ) → FilesJoin from files to → ((i : ℕ) (m : FileMeta) → slice_get files i ≡ Some m → m.from < m.to) → (i : ℕ) (m : FileMeta) → slice_get files i ≡ Some m → (from ≤ to) × (m.to ≤ to)
+join-within : (files : List FileMeta) (from to : ℕ) → FilesJoin from files to
+    → ((i : ℕ) (m : FileMeta) → slice_get files i ≡ Some m → m.from < m.to) → (i : ℕ) (m : FileMeta)
+    → slice_get files i ≡ Some m → (from ≤ to) × (m.to ≤ to)
 join-within [] from to j each i m e = absurd (cc)
 join-within (n ∷ files) from to j each zero m e =
     let q : n ≡ m = cc in
     let rest = reach files n.to to j.1 (λ i x o. each (suc i) x o) in
     (omega (arith, each 0 n refl, j.0, rest), omega (arith, rest, ap (λ (z : FileMeta). z.to) q))
   where
-    reach : (fs : List FileMeta) (a b : ℕ) → FilesJoin a fs b → ((i : ℕ) (m : FileMeta) → slice_get fs i ≡ Some m → m.from < m.to) → a ≤ b
+    reach : (fs : List FileMeta) (a b : ℕ) → FilesJoin a fs b
+        → ((i : ℕ) (m : FileMeta) → slice_get fs i ≡ Some m → m.from < m.to) → a ≤ b
     reach [] a b j each = omega (arith, j)
     reach (f ∷ fs) a b j each = omega (arith, each 0 f refl, j.0, reach fs f.to b j.1 (λ i. each (suc i)))
 join-within (n ∷ files) from to j each (suc i) m e =
@@ -111,14 +113,19 @@ module _ (a : Books) (k : Sound a) (snapshots : List Snapshot) (stand : Snapshot
   snapshots-changed = (sound, after)
 
 -- A snapshot of now stands: no file's range goes beyond it.
-now-stands : (a : Books) → Sound a → total (λ s. bit s.live) a.snapshots < 64 → length a.snapshots < 1048576 → Stand a (a.snapshots ++ record { at = length a.journal; live = true } ∷ [])
+now-stands : (a : Books) → Sound a → total (λ s. bit s.live) a.snapshots < 64 → length a.snapshots < 1048576
+    → Stand a (a.snapshots ++ record { at = length a.journal; live = true } ∷ [])
 now-stands b k few_live few =
     let h = k.lawful.snapshots in
     let snapshots = b.snapshots in
     let y : Snapshot = record { at = length b.journal; live = true } in
-    let cut : (f : ℕ) → cut_of b.journal (length b.journal) f ≡ length (of_family f b.journal) = λ f. ap (λ l. length (of_family f l)) (take_all (length b.journal) b.journal (omega arith)) in
+    let cut : (f : ℕ) → cut_of b.journal (length b.journal) f ≡ length (of_family f b.journal) =
+    λ f. ap (λ l. length (of_family f l)) (take_all (length b.journal) b.journal (omega arith)) in
     record {
-      within = λ n s e. ⊎_elim (λ o. h.within n s o) (λ o. omega (arith, ap (λ (z : Snapshot). z.at) o.1)) (entry_push snapshots y n s e);
+      within = λ n s e. ⊎_elim
+          (λ o. h.within n s o)
+          (λ o. omega (arith, ap (λ (z : Snapshot). z.at) o.1))
+          (entry_push snapshots y n s e);
       few = omega (arith, few_live, total-push (λ (s : Snapshot). bit s.live) snapshots y);
       made = omega (arith, few, length-append snapshots (y ∷ []));
       lasts = λ n s e l f file w. ⊎_elim
@@ -143,16 +150,26 @@ snapped a b k h =
     (snapshots-changed a k (a.snapshots ++ y ∷ []) (now-stands a k h.few_live h.few) (goes-push KeepsSnapshot a.snapshots y snapshot-itself))
 
 -- one less to keep cuts for
-fewer-stand : (a : Books) → Sound a → (n : ℕ) (x : Snapshot) → entry a.snapshots n ≡ Some x → Stand a (change a.snapshots n (record x { live = false }))
+fewer-stand : (a : Books) → Sound a → (n : ℕ) (x : Snapshot) → entry a.snapshots n ≡ Some x
+    → Stand a (change a.snapshots n (record x { live = false }))
 fewer-stand a k n x at =
     let h = k.lawful.snapshots in
     let y : Snapshot = record x { live = false } in
     record {
-      within = λ i s e. ⊎_elim (λ o. omega (arith, h.within n x at, ap (λ (z : Snapshot). z.at) o.1)) (λ o. h.within i s o.1) (entry_change a.snapshots n i y s e);
+      within = λ i s e. ⊎_elim
+          (λ o. omega (arith, h.within n x at, ap (λ (z : Snapshot). z.at) o.1))
+          (λ o. h.within i s o.1)
+          (entry_change a.snapshots n i y s e);
       few = omega (arith, h.few, total-change (λ (s : Snapshot). bit s.live) a.snapshots n x y at);
       made = omega (arith, h.made, length-change a.snapshots n y);
-      lasts = λ i s e l. ⊎_elim (λ o. gone (sym (ap (λ (z : Snapshot). z.live) o.1) ∙ l)) (λ o. h.lasts i s o.1 l) (entry_change a.snapshots n i y s e);
-      awaited = λ i s e l. ⊎_elim (λ o. gone (sym (ap (λ (z : Snapshot). z.live) o.1) ∙ l)) (λ o. h.awaited i s o.1 l) (entry_change a.snapshots n i y s e);
+      lasts = λ i s e l. ⊎_elim
+          (λ o. gone (sym (ap (λ (z : Snapshot). z.live) o.1) ∙ l))
+          (λ o. h.lasts i s o.1 l)
+          (entry_change a.snapshots n i y s e);
+      awaited = λ i s e l. ⊎_elim
+          (λ o. gone (sym (ap (λ (z : Snapshot). z.live) o.1) ∙ l))
+          (λ o. h.awaited i s o.1 l)
+          (entry_change a.snapshots n i y s e);
     }
   where
     gone : {A : Type 0} → false ≡ true → A

@@ -1,4 +1,5 @@
 pub mod Captures
+pub mod Changes
 pub mod Cleaning
 pub mod Currents
 pub mod Families
