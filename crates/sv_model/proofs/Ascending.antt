@@ -8,31 +8,31 @@ use Rattle.sv_model.specs.Lists.{In, Distinct}
 use Rattle.sv_model.specs.Summaries.{place_number, ascending}
 
 -- ---- what stands in a list
-in-here : (x : ℕ) (xs : List ℕ) → In x (x ∷ xs)
+pub in-here : (x : ℕ) (xs : List ℕ) → In x (x ∷ xs)
 in-here x xs = record { at = 0; is = refl }
 
-in-later : (n x : ℕ) (xs : List ℕ) → In n xs → In n (x ∷ xs)
+pub in-later : (n x : ℕ) (xs : List ℕ) → In n xs → In n (x ∷ xs)
 in-later n x xs h = record { at = suc h.at; is = h.is }
 
-in_cons : (n x : ℕ) (xs : List ℕ) → In n (x ∷ xs) → (n ≡ x) ⊎ In n xs
+pub in_cons : (n x : ℕ) (xs : List ℕ) → In n (x ∷ xs) → (n ≡ x) ⊎ In n xs
 in_cons n x xs h = by h.at h.is
   where
     by : (k : ℕ) → slice_get (x ∷ xs) k ≡ Some n → (n ≡ x) ⊎ In n xs
     by zero e = inl (let q : x ≡ n = cc in sym q)
     by (suc k) e = inr (record { at = k; is = e })
 
-in_none : (n : ℕ) → In n [] → ⊥
+pub in_none : (n : ℕ) → In n [] → ⊥
 in_none n h = absurd (let e = h.is in cc)
 
 -- ---- lists that rise
-abbrev Above : ℕ → List ℕ → Type 0
+abbrev pub Above : ℕ → List ℕ → Type 0
 Above x xs = (n : ℕ) → In n xs → x < n
 
-abbrev Rises : List ℕ → Type 0
+abbrev pub Rises : List ℕ → Type 0
 Rises [] = Unit {0}
 Rises (x ∷ xs) = Above x xs × Rises xs
 
-rises_from : (xs : List ℕ) → IsStrictlyIncreasing xs → Rises xs
+pub rises_from : (xs : List ℕ) → IsStrictlyIncreasing xs → Rises xs
 rises_from [] h = tt
 rises_from (x ∷ xs) h = (above, rises_from xs (λ k lt. (let g = h (suc k) (omega (arith, lt)) in subst (λ m. get_or xs k 0 < get_or (x ∷ xs) m 0) (let q : suc k + 1 ≡ suc (k + 1) = omega arith in q) g)))
   where

@@ -10,6 +10,7 @@ pub mod Freed
 pub mod KeyOrder
 pub mod Lists
 pub mod Lowering
+pub mod NumberLaws
 pub mod PlaceLaws
 pub mod Ranges
 pub mod Refusing
