@@ -1,4 +1,9 @@
 mod Answered
+mod BookLaws
+mod Choosing
+mod GrabLaws
 mod Keeping
+mod NumbersLaws
 mod Registered
 mod Rising
+mod StrayLaws

@@ -123,6 +123,7 @@ impl Numbers {
     /// Gives a registered number another status. Answers what it was. Takes no memory.
     pub(crate) fn mark(&mut self, number: u64, now: FileStatus) -> RegisteredFile
         requires { 0 < registered number self.old }
+        ensures once { registered number self.old ≤ 1 }
         ensures marked { (m : IsMarked number result.status now self.old self.new) × (m.it ≡ result) }
     {
         let at = position(&self.places, number);

@@ -61,6 +61,7 @@ returns c =
     let there : (m : IsMarked c.args.number x.status c.args.now l (set l c.position-at.result (with_status x c.args.now))) × (m.it ≡ x) =
     (record { at = suc c.position-at.result; it = x; found = r.0; had = record { number_is = r.1; status_is = refl }; marked = refl }, refl) in
     record {
+      once = omega (arith, c.self.invariant.once c.args.number, ap (registered c.args.number) c.self.view_is);
       marked = subst (λ (old : List RegisteredFile). (m : IsMarked c.args.number x.status c.args.now old (set l c.position-at.result (with_status c.index_mut-file.result.now c.args.now))) × (m.it ≡ x)) c.self.view_is
           (subst (λ (z : RegisteredFile). (m : IsMarked c.args.number x.status c.args.now l (set l c.position-at.result (with_status z c.args.now))) × (m.it ≡ x)) (sym is) there);
     }
