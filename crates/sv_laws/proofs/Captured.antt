@@ -107,8 +107,8 @@ module _ (a b : Books) (k : Sound a) (f : ℕ) (file : FileMeta) (h : IsFileCapt
         ))
         (λ o. let w = law.held g m o.1 in (w.0, w.1, entry-old a.files.numbers (y ∷ []) w.0 w.1 w.2, w.3))
         (captured_is g m q);
-    positive = λ i x at p. ⊎_elim
-        (λ o. law.positive i x o p)
+    drawn = λ i x at p. ⊎_elim
+        (λ o. law.drawn i x o p)
         (λ o. omega (arith, law.least, ap (λ (z : RegisteredFile). z.number) o.1))
         (entry_is i x at);
     grabbed = λ i x at p g m q. ⊎_elim

@@ -122,8 +122,8 @@ module _ (Named : ℕ → Type 0) (N K : List RegisteredFile) (h : EndsFiles Nam
         family_is = family_same w.1 t.0 t.2 ∙ w.3.family_is;
       },
     );
-    positive = λ i y e p. let t = goes-back (TurnsFile Named) N K h.goes h.long i y e in
-        omega (arith, law.positive i t.0 t.1 (ap is_some (sym (family_same t.0 y t.2)) ∙ p), number_same t.0 y t.2);
+    drawn = λ i y e p. let t = goes-back (TurnsFile Named) N K h.goes h.long i y e in
+        omega (arith, law.drawn i t.0 t.1 (ap is_some (sym (family_same t.0 y t.2)) ∙ p), number_same t.0 y t.2);
     grabbed = λ i y e p f n c. let t = goes-back (TurnsFile Named) N K h.goes h.long i y e in let u = not-turned t.0 y t.2 (inr (inr p)) in
         omega
         (arith, law.grabbed i t.0 t.1 (ap (λ (z : RegisteredFile). z.status) (sym u.0) ∙ p) f n c, number_same t.0 y t.2);

@@ -86,8 +86,8 @@ module _ (a b : Books) (k : Sound a) (h : ChangesGrabbed a b) where
         family_is = family_is w.1 t.0 t.2 ∙ w.3.family_is;
       },
     );
-    positive = λ i y at p. let t = back i y at in
-        omega (arith, law.positive i t.0 t.1 (ap is_some (sym (family_is t.0 y t.2)) ∙ p), number_is t.0 y t.2);
+    drawn = λ i y at p. let t = back i y at in
+        omega (arith, law.drawn i t.0 t.1 (ap is_some (sym (family_is t.0 y t.2)) ∙ p), number_is t.0 y t.2);
     grabbed = λ i y at p f n q. let t = back i y at in ⊎_elim
         (λ o. omega (arith, law.grabbed i t.0 t.1 (ap (λ (z : RegisteredFile). z.status) (sym o) ∙ p) f n q, ap (λ (z : RegisteredFile). z.number) o))
         (λ o. ⊎_elim (λ u. omega (arith, u.2 f n q, o.number)) (λ u. omega (arith, law.grabbed i t.0 t.1 u.0 f n q, o.number)) o.status)
@@ -174,8 +174,8 @@ strayed a b k n h =
             (λ o. grabbed_pending (ap (λ (z : RegisteredFile). z.status) (sym o.1) ∙ p))
             (entry_push a.files.numbers y i x at);
         held = λ g m q. let w = law.held g m q in (w.0, w.1, entry-old a.files.numbers (y ∷ []) w.0 w.1 w.2, w.3);
-        positive = λ i x at p. ⊎_elim
-            (λ o. law.positive i x o p)
+        drawn = λ i x at p. ⊎_elim
+            (λ o. law.drawn i x o p)
             (λ o. false_true (ap (λ (z : RegisteredFile). is_some z.family) (sym o.1) ∙ p))
             (entry_push a.files.numbers y i x at);
         grabbed = λ i x at p g m q. ⊎_elim

@@ -84,9 +84,9 @@ module _ (n : ℕ) (was now : FileStatus) (N K : List RegisteredFile) (m : IsMar
         (marked_entry i x e);
     held = λ g k e. let t = back g k e in let w = law.held g k t.0 in
         (w.0, w.1, marked-else w.0 w.1 (λ q. t.1 (sym w.3.number_is ∙ ap (λ (z : RegisteredFile). z.number) (some (sym w.2 ∙ ap (entry N) q ∙ m.found)) ∙ m.had.number_is)) w.2, w.3);
-    positive = λ i x e p. ⊎_elim
-        (λ q. omega (arith, law.positive m.at m.it m.found (ap (λ (z : RegisteredFile). is_some z.family) (sym q.1) ∙ p), ap (λ (z : RegisteredFile). z.number) q.1))
-        (λ q. law.positive i x q.1 p)
+    drawn = λ i x e p. ⊎_elim
+        (λ q. omega (arith, law.drawn m.at m.it m.found (ap (λ (z : RegisteredFile). is_some z.family) (sym q.1) ∙ p), ap (λ (z : RegisteredFile). z.number) q.1))
+        (λ q. law.drawn i x q.1 p)
         (marked_entry i x e);
     grabbed = λ i x e p g k c. let t = back g k c in ⊎_elim
         (λ q. let l = low (ap (λ (z : RegisteredFile). z.status) (sym q.1) ∙ p) g k t.0 in omega (arith, l, ap (λ (z : RegisteredFile). z.number) q.1, m.had.number_is))

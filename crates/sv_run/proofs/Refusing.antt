@@ -8,14 +8,14 @@ use Rattle.sv_model.specs.declared.Refusal.TheVariants as refusal
 use Rattle.sv_model.specs.Faults.{RoseBy}
 use Rattle.sv_model.specs.Journal.{change_of}
 use Rattle.sv_model.specs.Books.{Books}
-use Rattle.sv_model.specs.After.{After}
+use Rattle.sv_plain.specs.Follows.{Follows}
 use Rattle.sv_model.specs.Refusals.{IsDue, first_due, key_fault, value_fault}
 use Rattle.sv_script.specs.declared.Command.{Command}
 use Rattle.sv_script.specs.declared.Command.TheVariants as command
 use Rattle.sv_script.specs.declared.Reply.TheVariants as reply
 use Rattle.sv_script.specs.Answered.{Answered, handle_of, change_asked, fault_by}
 use Rattle.sv_script.specs.ReplyLaw.{due, handle_fault, Refused, Met, ReplyFits}
-use Rattle.sv_plain.specs.Held.{OthersStay}
+use Rattle.sv_model.specs.HeldFiles.{OthersStay}
 use Rattle.sv_plain.specs.Store.{IsNumberedFrom}
 use Rattle.sv_run.specs.States.{State, IsReady, LeavesOthers}
 use Rattle.sv_run.specs.Steps.{Knows, Steps}
@@ -31,9 +31,9 @@ asks_none (command.Delete family key) e = refl
 asks_none c e = refl
 
 -- a refused command, whatever was done before the refusal
-pub refused_steps : (old new : State) (c : Command) (e : Refusal) → IsReady new → After old.books new.books → new.books.journal ≡ old.books.journal
+pub refused_steps : (old new : State) (c : Command) (e : Refusal) → IsReady new → Follows old.books new.books → new.books.journal ≡ old.books.journal
     → ((first : ℕ) → IsNumberedFrom first old.books → IsNumberedFrom first new.books) → LeavesOthers new.books old.files new.files → old.faults ≤ new.faults → RoseBy (fault_by (reply.Refused e)) old.faults new.faults
-    → ((earlier : List Answered) → Knows old.books earlier → (later : Books) → After new.books later → ReplyFits (is_some old.files) later 0 earlier c (reply.Refused e))
+    → ((earlier : List Answered) → Knows old.books earlier → (later : Books) → Follows new.books later → ReplyFits (is_some old.files) later 0 earlier c (reply.Refused e))
     → Steps old new c (reply.Refused e)
 refused_steps old new c e ready after journal numbered others later faults fits = record {
   ready = ready;
