@@ -16,7 +16,7 @@ use Rattle.sv_model.specs.After.{After}
 use Rattle.sv_model.specs.Described.{IsFileOf}
 use Rattle.sv_model.specs.Steady.{Sound}
 use Rattle.sv_model.proofs.Registers.{entry-new}
-use Rattle.sv_laws.specs.NewCurrents.{IsCreated}
+use Rattle.sv_laws.specs.NewCurrents.{IsFamilyMade}
 use Rattle.sv_laws.specs.Installs.{next_top, live_super}
 use Rattle.sv_laws.proofs.Items.{some, every_none, in-none, none_some}
 use Rattle.sv_laws.proofs.Growing.{get_within, placed-push}
@@ -25,7 +25,7 @@ use Rattle.sv_laws.proofs.BorneRows.{unborne, unowned}
 use Rattle.sv_laws.proofs.BorneRows.{mem-within}
 use Rattle.sv_laws.specs.Growing.{IsPlaced}
 
-pub created : (a b : Books) (k : Sound a) (r : Family) → IsCreated a b r → Sound b × After a b
+pub created : (a b : Books) (k : Sound a) (r : Family) → IsFamilyMade a b r → Sound b × After a b
 created a b k r h =
     let f = length a.families in
     let none : of_family f a.journal ≡ [] = unowned a.journal f (λ i w e. (k.steady.borne i w e).family_made) in

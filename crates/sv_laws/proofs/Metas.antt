@@ -17,26 +17,6 @@ use Rattle.sv_model.proofs.Freed.{distinct_times}
 use Rattle.sv_laws.proofs.Items.{some, in-suc}
 use Rattle.sv_laws.proofs.Registers.{goes-rest}
 
-pub same-is : (n m : ℕ) → m ≡ n → same n m ≡ 1
-same-is n m e = ap (same n) e ∙ same_here n
-
--- ---- a number that is registered once has one place
-entries_le : {A : Type 0} (g : A → ℕ) (l : List A) (i j : ℕ) (x y : A) → i ≢ j → slice_get l i ≡ Some x
-    → slice_get l j ≡ Some y → g x + g y ≤ total g l
-entries_le g [] i j x y n e d = absurd (cc)
-entries_le g (z ∷ l) zero zero x y n e d = absurd (n refl)
-entries_le g (z ∷ l) zero (suc j) x y n e d = let q : z ≡ x = cc in let r = total_at g l j y d in omega (arith, ap g q)
-entries_le g (z ∷ l) (suc i) zero x y n e d = let q : z ≡ y = cc in let r = total_at g l i x e in omega (arith, ap g q)
-entries_le g (z ∷ l) (suc i) (suc j) x y n e d = let r = entries_le g l i j x y (λ h. n (ap suc h)) e d in omega arith
-
-pub once-at : (l : List RegisteredFile) (n i j : ℕ) (x y : RegisteredFile) → registered n l ≤ 1 → entry l i ≡ Some x
-    → entry l j ≡ Some y → x.number ≡ n → y.number ≡ n → i ≡ j
-once-at l n zero j x y once e d p q = absurd (cc)
-once-at l n (suc i) zero x y once e d p q = absurd (cc)
-once-at l n (suc i) (suc j) x y once e d p q = dite (ℕ_discrete i j)
-    (λ h. ap suc h)
-    (λ h. absurd (let t = entries_le (λ (z : RegisteredFile). same n z.number) l i j x y h e d in omega (arith, t, same-is n x.number p, same-is n y.number q, once)))
-
 -- what is captured for a family stays so
 pub captured-goes : (N K : List RegisteredFile) → GoesOn KeepsNumber N K → (f n : ℕ) → Has (IsCapturedFor f n) N
     → Has (IsCapturedFor f n) K

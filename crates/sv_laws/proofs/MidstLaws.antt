@@ -12,16 +12,15 @@ use Rattle.sv_model.specs.Lists.{In, Distinct, total, times, same}
 use Rattle.sv_model.specs.Named.{HasMember, HasFile, numbers_of, IsLive, memtable_live}
 use Rattle.sv_model.specs.Registers.{entry, change, Has, EachEntry}
 use Rattle.sv_model.specs.After.{KeepsMemtable}
-use Rattle.sv_model.specs.Numbers.{registered}
+use Rattle.sv_model.specs.Numbers.{registered, IsMarked}
 use Rattle.sv_model.proofs.Lists.{times_in, in_times}
 use Rattle.sv_model.proofs.Registers.{entry-same, entry-else, entry_change, entry_push, total_entry, has_total, goes-change, goes-on, length-change}
 use Rattle.sv_model.proofs.AfterLaws.{memtable-itself}
+use Rattle.sv_model.proofs.NumberLaws.{one_entry}
 use Rattle.sv_laws.specs.Midst.{Midst, MidstFiles}
 use Rattle.sv_laws.specs.Cleaning.{Went, Ends, EndsFiles}
-use Rattle.sv_laws.specs.Settling.{IsMarked}
 use Rattle.sv_laws.proofs.Items.{some, in-cons, in-none, in-left, in-right, in_append}
 use Rattle.sv_laws.proofs.Settled.{marked_entry}
-use Rattle.sv_laws.proofs.Metas.{once-at}
 use Rattle.sv_laws.proofs.Registers.{goes-back, live-back, total-same}
 use Rattle.sv_laws.proofs.EndsLaws.{ends-of}
 use Rattle.sv_laws.proofs.Apart.{false_true, live_obsolete}
@@ -203,7 +202,7 @@ midst-file Named old now then n left once h free mark = record {
       (λ q. live_obsolete (sym w.3.status_is ∙ ap (λ (z : RegisteredFile). z.status) q.1))
       (λ q. ⊎_elim
       (λ p. inl p)
-      (λ i. ⊎_elim (λ o. absurd (q.0 (once-at now n w.0 mark.at w.1 mark.it (omega (arith, once n, sums n)) q.1 mark.found (w.3.number_is ∙ o) mark.had.number_is))) (λ j. inr j) (in-cons k n left i))
+      (λ i. ⊎_elim (λ o. absurd (q.0 (one_entry now n w.0 mark.at w.1 mark.it (omega (arith, once n, sums n)) q.1 mark.found (w.3.number_is ∙ o) mark.had.number_is))) (λ j. inr j) (in-cons k n left i))
       (h.live k (w.0, w.1, q.1, w.3)))
       (marked_entry n Live Obsolete now then mark w.0 w.1 w.2);
 }

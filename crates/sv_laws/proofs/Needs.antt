@@ -19,9 +19,9 @@ use Rattle.sv_model.specs.Described.{MembersJoin}
 use Rattle.sv_model.specs.Steady.{Sound, IsCurrent}
 use Rattle.sv_model.proofs.Registers.{entry-else, total-change, goes-change}
 use Rattle.sv_model.proofs.AfterLaws.{memtable-itself}
+use Rattle.sv_model.proofs.NumberLaws.{one_entry}
 use Rattle.sv_laws.specs.Installs.{IsOpen}
 use Rattle.sv_laws.proofs.Items.{some, in-cons, in-suc, in-none, in_append}
-use Rattle.sv_laws.proofs.Metas.{once-at}
 use Rattle.sv_laws.proofs.StillFits.{join-on, join-append, join_reach}
 use Rattle.sv_laws.proofs.OpenFamilies.{current-top, says, member, active-lives}
 use Rattle.sv_laws.proofs.Apart.{pending_live}
@@ -79,7 +79,7 @@ module _ (a : Books) (k : Sound a) where
   pub unnamed : (n : ℕ) → IsRegistered a.files.numbers n Pending → NamedFile a.versions n → ⊥
   unnamed n w h =
       let l = (k.lawful.files n).1 h in
-      let q = once-at a.files.numbers n w.0 l.0 w.1 l.1 (k.lawful.numbers.once n) w.2 l.2 w.3.number_is l.3.number_is in
+      let q = one_entry a.files.numbers n w.0 l.0 w.1 l.1 (k.lawful.numbers.once n) w.2 l.2 w.3.number_is l.3.number_is in
       pending_live
       (sym w.3.status_is ∙ ap (λ (z : RegisteredFile). z.status) (some (sym w.2 ∙ ap (entry a.files.numbers) q ∙ l.2)) ∙ l.3.status_is)
 

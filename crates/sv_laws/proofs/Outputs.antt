@@ -12,12 +12,11 @@ use Rattle.sv_model.specs.Named.{numbers_of}
 use Rattle.sv_model.specs.Registers.{entry, GoesOn}
 use Rattle.sv_model.specs.Books.{Books}
 use Rattle.sv_model.specs.After.{KeepsNumber}
-use Rattle.sv_model.specs.Numbers.{IsRegistered}
+use Rattle.sv_model.specs.Numbers.{IsRegistered, IsSettled}
 use Rattle.sv_model.specs.Described.{FilesStand, IsFileOf}
 use Rattle.sv_model.specs.Steady.{Sound, IsFlush, IsMerge, IsAwaited}
 use Rattle.sv_model.proofs.Registers.{entry-new, entry-same}
 use Rattle.sv_laws.specs.Installs.{next_top, IsOpen}
-use Rattle.sv_laws.specs.Settling.{IsSettled}
 use Rattle.sv_laws.proofs.Items.{some, none_some}
 use Rattle.sv_laws.proofs.Settled.{marked-goes, marked-keeps, marked-here, settled-captured}
 use Rattle.sv_laws.proofs.Metas.{captured-goes}

@@ -7,13 +7,13 @@ use Rattle.sv_model.specs.declared.records.FileStatus.TheVariants.{Pending, Grab
 use Rattle.sv_model.specs.Lists.{same, bit}
 use Rattle.sv_model.specs.Registers.{entry, change, GoesOn}
 use Rattle.sv_model.specs.After.{KeepsNumber}
-use Rattle.sv_model.specs.Numbers.{NumbersStand, IsRegistered, registered, captures, captured_numbers}
+use Rattle.sv_model.specs.Numbers.{NumbersStand, IsRegistered, registered, captures, captured_numbers, IsMarked, IsSettled}
 use Rattle.sv_model.specs.Books.{FileRegister}
 use Rattle.sv_model.proofs.Registers.{entry-same, entry-else, entry_change, total-change, goes-change}
 use Rattle.sv_model.proofs.AfterLaws.{number-itself}
-use Rattle.sv_laws.specs.Settling.{IsMarked, IsSettled}
+use Rattle.sv_model.proofs.NumberLaws.{one_entry}
 use Rattle.sv_laws.proofs.Items.{some}
-use Rattle.sv_laws.proofs.Metas.{once-at, captured_numbers-change}
+use Rattle.sv_laws.proofs.Metas.{captured_numbers-change}
 
 module _ (n : ℕ) (was now : FileStatus) (N K : List RegisteredFile) (m : IsMarked n was now N K) where
   abbrev pub y : RegisteredFile
@@ -80,7 +80,7 @@ module _ (n : ℕ) (was now : FileStatus) (N K : List RegisteredFile) (m : IsMar
         (marked_entry i x e);
     pending = λ i x e p. ⊎_elim
         (λ q. absurd (not_pending (ap (λ (z : RegisteredFile). z.status) (sym q.1) ∙ p)))
-        (λ q. let t = law.pending i x q.1 p in (t.0, t.1, on t.0 x.number t.2 (λ o. q.0 (once-at N n i m.at x m.it (law.once n) q.1 m.found o m.had.number_is))))
+        (λ q. let t = law.pending i x q.1 p in (t.0, t.1, on t.0 x.number t.2 (λ o. q.0 (one_entry N n i m.at x m.it (law.once n) q.1 m.found o m.had.number_is))))
         (marked_entry i x e);
     held = λ g k e. let t = back g k e in let w = law.held g k t.0 in
         (w.0, w.1, marked-else w.0 w.1 (λ q. t.1 (sym w.3.number_is ∙ ap (λ (z : RegisteredFile). z.number) (some (sym w.2 ∙ ap (entry N) q ∙ m.found)) ∙ m.had.number_is)) w.2, w.3);
@@ -125,7 +125,7 @@ module _ (f n : ℕ) (now : FileStatus) (a b : FileRegister) (h : IsSettled f n 
   settled_only law g k e q =
       let w = law.held g k e in
       let at_is =
-      once-at a.numbers n w.0 h.numbers.at w.1 h.numbers.it (law.once n) w.2 h.numbers.found (w.3.number_is ∙ q)
+      one_entry a.numbers n w.0 h.numbers.at w.1 h.numbers.it (law.once n) w.2 h.numbers.found (w.3.number_is ∙ q)
       h.numbers.had.number_is in
       some
       (sym w.3.family_is ∙ ap (λ (z : RegisteredFile). z.family) (some (sym w.2 ∙ ap (entry a.numbers) at_is ∙ h.numbers.found)) ∙ h.of)

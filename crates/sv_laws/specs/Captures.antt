@@ -13,10 +13,9 @@ use Rattle.sv_model.specs.Registers.{entry, GoesOn}
 use Rattle.sv_model.specs.After.{Continues, KeepsNumber}
 use Rattle.sv_model.specs.Books.{Books}
 use Rattle.sv_model.specs.Named.{numbers_of}
-use Rattle.sv_model.specs.Numbers.{NumbersStand, IsRegistered, captures, captured_numbers}
+use Rattle.sv_model.specs.Numbers.{NumbersStand, IsRegistered, captures, captured_numbers, IsSettled}
 use Rattle.sv_model.specs.Snapshots.{IsAwaitedFile}
 use Rattle.sv_model.specs.Steady.{IsCurrent, IsAwaited}
-use Rattle.sv_laws.specs.Settling.{IsSettled}
 use Rattle.sv_laws.specs.Installs.{IsOpen}
 use Rattle.sv_laws.specs.Snapping.{HasLiveCuts, IsClearOfLive}
 

@@ -8,7 +8,7 @@ use Rattle.sv_model.specs.declared.records.Snapshot.{Snapshot}
 use Rattle.sv_model.specs.declared.settings.Options.{Options}
 use Rattle.sv_model.specs.Books.{Books}
 use Rattle.sv_laws.specs.Writes.{IsWritten}
-use Rattle.sv_laws.specs.NewCurrents.{IsOptionSet, IsSwitched, IsFlushed, IsCompacted, IsCreated}
+use Rattle.sv_laws.specs.NewCurrents.{IsOptionSet, IsSwitched, IsFlushed, IsCompacted, IsFamilyMade}
 use Rattle.sv_laws.specs.Captures.{IsFlushBegun, IsMergePlanned, IsGivenUp}
 use Rattle.sv_laws.specs.Cleaning.{IsCleaned}
 use Rattle.sv_laws.specs.Families.{IsDropped, IsOpened, IsReleased, IsRetired, IsCurrentEnded}
@@ -29,7 +29,7 @@ pub data Changes (a b : Books) : Type 0 where
   -- a SuperVersion goes
   cleaned : (s : ℕ) (x : SuperVersion) → IsCleaned a b s x → Changes a b
   -- families
-  created : (r : Family) → IsCreated a b r → Changes a b
+  created : (r : Family) → IsFamilyMade a b r → Changes a b
   opened : (f lane : ℕ) → IsOpened a b f lane → Changes a b
   dropped : (f lane : ℕ) → IsDropped a b f lane → Changes a b
   released : (f lane : ℕ) → IsReleased a b f lane → Changes a b

@@ -17,12 +17,11 @@ use Rattle.sv_model.specs.Registers.{entry, EachEntry}
 use Rattle.sv_model.specs.Books.{Books, FileRegister, files_of, end_of}
 use Rattle.sv_model.specs.Named.{IsLiveMemtable, IsLiveList, IsLiveVersion, numbers_of}
 use Rattle.sv_model.specs.Families.{InRange}
-use Rattle.sv_model.specs.Numbers.{IsRegistered}
+use Rattle.sv_model.specs.Numbers.{IsRegistered, IsSettled}
 use Rattle.sv_model.specs.Snapshots.{IsLastFile, IsAwaitedFile}
 use Rattle.sv_model.specs.Described.{Describes}
 use Rattle.sv_model.specs.Steady.{IsCurrent, IsAwaited}
 use Rattle.sv_laws.specs.Growing.{Grows, IsPlaced}
-use Rattle.sv_laws.specs.Settling.{IsSettled}
 
 -- the family is not dropped, and has this current
 pub record IsOpen (a : Books) (f s : ℕ) (c : SuperVersion) : Type 0 where

@@ -7,6 +7,5 @@ pub mod Installs
 pub mod Midst
 pub mod NewCurrents
 pub mod Purges
-pub mod Settling
 pub mod Snapping
 pub mod Writes

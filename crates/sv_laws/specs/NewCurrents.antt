@@ -14,7 +14,7 @@ use Rattle.sv_model.specs.Lists.{In, Every}
 use Rattle.sv_model.specs.Registers.{entry}
 use Rattle.sv_model.specs.Books.{Books}
 use Rattle.sv_model.specs.Families.{InRange}
-use Rattle.sv_laws.specs.Settling.{IsSettled}
+use Rattle.sv_model.specs.Numbers.{IsSettled}
 use Rattle.sv_laws.specs.Installs.{IsOpen, HasRoom, HasCell, live_super, next_top}
 
 -- The family's options are others.
@@ -99,7 +99,7 @@ pub record IsCompacted (a b : Books) (f : ℕ) (file : FileMeta) : Type 0 where
   }
 
 -- A family more is made, with its first memtable, list, Version and SuperVersion.
-pub record IsCreated (a b : Books) (r : Family) : Type 0 where
+pub record IsFamilyMade (a b : Books) (r : Family) : Type 0 where
   pub place : ℕ
   pub room : HasRoom a.supers place
   pub cell : ℕ
