@@ -27,6 +27,7 @@ pub mod FileChanges
 pub mod Cleaned
 pub mod WhatGoes
 pub mod Purged
+pub mod Grabs
 pub mod Captured
 pub mod GivenUp
 pub mod MidstLaws
