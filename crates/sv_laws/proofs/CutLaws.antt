@@ -25,13 +25,15 @@ cut-ascend (w ∷ J) f zero n le = omega arith
 cut-ascend (w ∷ J) f (suc m) zero le = absurd (omega arith)
 cut-ascend (w ∷ J) f (suc m) (suc n) le = by (w.family == f) (cut-ascend J f m n (omega arith))
   where
-    by : (b : Bool) → cut_of J m f ≤ cut_of J n f → length (cond b (w ∷ of_family f (take m J)) (of_family f (take m J))) ≤ length (cond b (w ∷ of_family f (take n J)) (of_family f (take n J)))
+    by : (b : Bool) → cut_of J m f ≤ cut_of J n f
+        → length (cond b (w ∷ of_family f (take m J)) (of_family f (take m J))) ≤ length (cond b (w ∷ of_family f (take n J)) (of_family f (take n J)))
     by true h = omega (arith, h)
     by false h = h
 
 -- ---- snapshots stay in order
 
-pushed-ascend : (l : List Snapshot) (y : Snapshot) → ((n : ℕ) (s : Snapshot) → entry l n ≡ Some s → s.at ≤ y.at) → Ascend l
+pushed-ascend : (l : List Snapshot) (y : Snapshot) → ((n : ℕ) (s : Snapshot) → entry l n ≡ Some s → s.at ≤ y.at)
+    → Ascend l
     → Ascend (l ++ y ∷ [])
 pushed-ascend l y last up n m s t e d le = ⊎_elim
     (λ o. ⊎_elim (λ p. up n m s t o p le) (λ p. omega (arith, last n s o, ap (λ (z : Snapshot). z.at) p.1)) (entry_push l y m t d))
@@ -51,9 +53,11 @@ changed-back l i x at n s e = ⊎_elim
 
 pub snapped-ascend : (a b : Books) → Sound a → IsSnapped a b → Ascend a.snapshots → Ascend b.snapshots
 snapped-ascend a b k h up =
-    subst (λ (z : Books). Ascend z.snapshots) (sym h.is) (pushed-ascend a.snapshots (record { at = length a.journal; live = true }) k.lawful.snapshots.within up)
+    subst (λ (z : Books). Ascend z.snapshots) (sym h.is)
+    (pushed-ascend a.snapshots (record { at = length a.journal; live = true }) k.lawful.snapshots.within up)
 
-pub unsnapped-ascend : (a b : Books) (i : ℕ) (x : Snapshot) → IsUnsnapped a b i x → Ascend a.snapshots → Ascend b.snapshots
+pub unsnapped-ascend : (a b : Books) (i : ℕ) (x : Snapshot) → IsUnsnapped a b i x → Ascend a.snapshots
+    → Ascend b.snapshots
 unsnapped-ascend a b i x h up = subst (λ (z : Books). Ascend z.snapshots) (sym h.is) (λ n m s t e d le.
     let p = changed-back a.snapshots i x h.at n s e in
     let q = changed-back a.snapshots i x h.at m t d in

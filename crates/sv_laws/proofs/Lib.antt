@@ -11,6 +11,7 @@ pub mod OpenFamilies
 pub mod EndsLaws
 pub mod SnapshotLaws
 pub mod CutLaws
+pub mod GatheredCuts
 pub mod InstallNames
 pub mod InstallFits
 pub mod InstallPlaces

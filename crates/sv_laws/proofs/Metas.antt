@@ -1,17 +1,15 @@
 -- What captured numbers cover: each number is registered once, and each captured one has its own meta.
-use Rattle.std.proofs.Common.{◌≡◌, ◌≢◌, ◌<◌, ◌≤◌, ℕ, zero, suc, ◌+◌, Bool, true, false, cond, List, [], ◌∷◌, ◌++◌, length, Some, refl, sym, ap, ◌∙◌, arith, Option, filter, subst}
+use Rattle.std.proofs.Common.{◌≡◌, ◌<◌, ◌≤◌, ℕ, zero, suc, ◌+◌, Bool, true, false, cond, List, [], ◌∷◌, ◌++◌, length, Some, refl, sym, ap, ◌∙◌, arith, Option, filter, subst}
 use Rattle.std.specs.Prelude.{slice_get, is_some, map}
-use mathlib.Core.Logic.{dite}
-use native.Mathlib.Decide.{ℕ_discrete}
 use Rattle.sv_model.specs.declared.records.RegisteredFile.{RegisteredFile}
 use Rattle.sv_model.specs.declared.records.FileMeta.{FileMeta}
-use Rattle.sv_model.specs.Lists.{In, Distinct, total, same, times}
+use Rattle.sv_model.specs.Lists.{In, Distinct, same, times}
 use Rattle.sv_model.specs.Registers.{entry, change, Has, GoesOn}
 use Rattle.sv_model.specs.After.{KeepsNumber}
 use Rattle.sv_model.specs.Reads.{IsCapturedFor}
 use Rattle.sv_model.specs.Named.{numbers_of}
 use Rattle.sv_model.specs.Numbers.{NumbersStand, registered, captured_numbers}
-use Rattle.sv_model.proofs.Lists.{total_at, at_total, same_here, same_is, times_in}
+use Rattle.sv_model.proofs.Lists.{at_total, same_is, times_in}
 use Rattle.sv_model.proofs.Registers.{goes-change, length-change}
 use Rattle.sv_model.proofs.Freed.{distinct_times}
 use Rattle.sv_laws.proofs.Items.{some, in-suc}
