@@ -11,7 +11,7 @@ use Rattle.std.specs.Str.{bytes_eq}
 use Rattle.sv_model.specs.declared.records.Family.{Family}
 use Rattle.sv_model.specs.declared.refusals.Refusal.{Refusal}
 use Rattle.sv_model.specs.declared.refusals.Refusal.TheVariants as refusal
-use Rattle.sv_model.specs.Lists.{total}
+use Rattle.sv_model.specs.Lists.{bit, total}
 use Rattle.sv_model.specs.Refusals.{first_due}
 use Rattle.sv_model.specs.Families.{AtMostOne, IsOwn, IsStanding, is_retired}
 use Rattle.sv_family.specs.Refused.{dropped_fault, has_handle, is_own, is_standing, stands, when}
@@ -155,11 +155,11 @@ module _ (families : List Family) (lane : ℕ) (name : List ℕ) (id : ℕ) (fou
   dropped_not_due_next first none one e = ap (λ d. first_due (d ∷ dropped_fault families lane name ∷ [])) none ∙ ap (λ d. first_due (d ∷ [])) (dropped_not_due one e)
 
 -- ---- no lane has a handle
-none_held : (handles : List Bool) → (total (λ held. cond held 1 0) handles == 0) ≡ not (list_any (λ held. held) handles)
+none_held : (handles : List Bool) → (total bit handles == 0) ≡ not (list_any (λ held. held) handles)
 none_held [] = refl
-none_held (true ∷ handles) = ne_eqb (1 + total (λ held. cond held 1 0) handles) 0 (λ e. omega (arith, e))
-none_held (false ∷ handles) = ap (λ n. n == 0) (zero-add (total (λ held. cond held 1 0) handles)) ∙ none_held handles
+none_held (true ∷ handles) = ne_eqb (1 + total bit handles) 0 (λ e. omega (arith, e))
+none_held (false ∷ handles) = ap (λ n. n == 0) (zero-add (total bit handles)) ∙ none_held handles
 
 pub retired_is : (f : Family) (held : Bool) → held ≡ list_any (λ held. held) f.handles → f.dropped ≡ true → not held ≡ is_retired f
 retired_is f held held_is dropped =
-    ap not held_is ∙ sym (none_held f.handles) ∙ sym (ap (λ b. b && (total (λ held. cond held 1 0) f.handles == 0)) dropped)
+    ap not held_is ∙ sym (none_held f.handles) ∙ sym (ap (λ b. b && (total bit f.handles == 0)) dropped)

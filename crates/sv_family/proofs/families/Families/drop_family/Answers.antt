@@ -18,7 +18,7 @@ was_read c = record {
 }
 
 pub invariant_of-self : goal.invariant_of-self
-invariant_of-self c = lawful_drop c.args.lane c.args.name.now c.self.inside.families.items c.args.self.now c.id.inside.0 c.in_ok-id.id c.index_mut-family.result.now c.self.invariant (was_read c) c.in_ok-id.ensures.other
+invariant_of-self c = lawful_drop c.self.inside.families.items c.args.self.now c.id.inside.0 c.in_ok-id.id c.index_mut-family.result.now c.self.invariant c.args.lane c.args.name.now (was_read c) c.in_ok-id.ensures.other
 
 pub returns-clause-changed : goal.returns-clause-changed
 returns-clause-changed c = changed_is (IsOwnStanding c.args.lane c.args.name.now) c.self.inside.families.items c.args.self.now c.id.inside.0 c.in_ok-id.id c.index_mut-family.result.now (was_read c) as_dropped

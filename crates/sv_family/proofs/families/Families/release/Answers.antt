@@ -8,7 +8,7 @@ was_read : (c : goal.After-self-1) → WasRead (IsOwn c.args.lane c.args.name.no
 was_read c = record { same = c.self.view_is; place = c.id.view_is; there = c.in_ok-id.ensures.found; read = c.index_mut-family.ensures.value }
 
 pub invariant_of-self : goal.invariant_of-self
-invariant_of-self c = lawful_release c.args.lane c.args.name.now c.self.inside.families.items c.args.self.now c.id.inside.0 c.in_ok-id.id c.index_mut-family.result.now c.self.invariant (was_read c) c.in_ok-id.ensures.other
+invariant_of-self c = lawful_release c.self.inside.families.items c.args.self.now c.id.inside.0 c.in_ok-id.id c.index_mut-family.result.now c.self.invariant c.args.lane c.args.name.now (was_read c) c.in_ok-id.ensures.other
 
 pub returns-clause-changed : goal.returns-clause-changed
 returns-clause-changed c = changed_is (IsOwn c.args.lane c.args.name.now) c.self.inside.families.items c.args.self.now c.id.inside.0 c.in_ok-id.id c.index_mut-family.result.now (was_read c) (with_handle c.args.lane false)

@@ -10,7 +10,7 @@ was_read c = record { same = c.self.view_is; place = c.id.view_is; there = c.in_
 pub invariant_of-self : goal.invariant_of-self
 invariant_of-self c =
     subst (λ o. AreFamilies (set c.self.inside.families.items c.id.inside.0 (record c.index_mut-family.result.now { options = o }))) (sym c.with_option-family.ensures)
-    (lawful_option c.args.lane c.args.name.now c.args.option c.args.value c.self.inside.families.items c.args.self.now c.id.inside.0 c.in_ok-id.id c.index_mut-family.result.now c.self.invariant (was_read c) (set_in_range c.args.self.now c.args.lane c.args.name.now c.args.option c.args.value c.in_ok-id.ensures.refused))
+    (lawful_option c.self.inside.families.items c.args.self.now c.id.inside.0 c.in_ok-id.id c.index_mut-family.result.now c.self.invariant c.args.lane c.args.name.now c.args.option c.args.value (was_read c) (set_in_range c.args.self.now c.args.lane c.args.name.now c.args.option c.args.value c.in_ok-id.ensures.refused))
 
 pub returns-clause-changed : goal.returns-clause-changed
 returns-clause-changed c =
