@@ -1,0 +1,4 @@
+mod Answered
+mod Keeping
+mod Registered
+mod Rising

@@ -14,7 +14,7 @@ use crate::numbers::Numbers;
 use crate::settled::{Settled, status_of};
 use std::alloc::Global;
 use std::marker::Model;
-use sv_model::{FamilyId, FileNumber, FileStatus, OutOfMemory, Refusal, RegisteredFile};
+use sv_model::{FamilyId, FileNumber, FileStatus, OutOfMemory, Refusal};
 
 /// How many numbers are captured at most.
 pub const MAX_CAPTURED: usize = 1_048_576;
@@ -87,7 +87,7 @@ impl FileBook {
     {
         let mut numbers = Numbers::new(alloc);
         for (family, number) in files {
-            numbers.push(live(family, number))?;
+            numbers.push(number.0, FileStatus::Live, Some(*family))?;
         }
         Ok(with_numbers(numbers, files.len(), next))
     }
@@ -113,14 +113,13 @@ impl FileBook {
         if self.made >= MAX_CAPTURED || self.next == u64::MAX {
             return Err(Refusal::RegisterFull);
         }
-        let number = FileNumber(self.next);
-        if self.numbers.push(pending(&family, &number)).is_err() {
-            return Err(Refusal::OutOfMemory);
-        }
-        self.captured[family.0 as usize] = Some(number);
+        let number = self.next;
+        self.numbers
+            .push(number, FileStatus::Pending, Some(family))?;
+        self.captured[family.0 as usize] = Some(FileNumber(number));
         self.made += 1;
-        self.next += 1;
-        Ok(number)
+        self.next = number + 1;
+        Ok(FileNumber(number))
     }
 
     /// Ends the capture of a Pending number: it is Live or Obsolete, and its family has no captured
@@ -187,26 +186,6 @@ fn with_numbers(numbers: Numbers, made: usize, next: FileNumber) -> FileBook
         jobs: 0,
         made,
         next: next.0,
-    }
-}
-
-fn pending(family: &FamilyId, number: &FileNumber) -> RegisteredFile
-    ensures { result ≡ record { number = number.now; status = status.Pending; family = Some family.now } }
-{
-    RegisteredFile {
-        number: *number,
-        status: FileStatus::Pending,
-        family: Some(*family),
-    }
-}
-
-fn live(family: &FamilyId, number: &FileNumber) -> RegisteredFile
-    ensures { result ≡ live_file (family.now, number.now) }
-{
-    RegisteredFile {
-        number: *number,
-        status: FileStatus::Live,
-        family: Some(*family),
     }
 }
 

@@ -7,7 +7,7 @@ ghost use Rattle.sv_files.specs.Calls.{grab};
 ghost use Rattle.sv_files.specs.Kept.{AddsStrays, FindsStrays};
 
 use crate::numbers::Numbers;
-use sv_model::{FileNumber, FileStatus, OutOfMemory, RegisteredFile};
+use sv_model::{FileNumber, FileStatus, OutOfMemory};
 
 // Makes each of these Obsolete numbers Grabbed.
 pub(crate) fn grab_all(numbers: &mut Numbers, found: &[FileNumber])
@@ -50,7 +50,7 @@ fn add_strays(numbers: &mut Numbers, listed: &[FileNumber], limit: u64) -> Resul
 {
     for number in listed {
         if number.0 < limit && !numbers.is_registered(number.0) {
-            numbers.push(stray(number))?;
+            numbers.push(number.0, FileStatus::Obsolete, None)?;
         }
     }
     Ok(())
@@ -63,15 +63,5 @@ fn cut_back(numbers: &mut Numbers, stay: usize)
 {
     while numbers.as_slice().len() > stay {
         numbers.take_back();
-    }
-}
-
-fn stray(number: &FileNumber) -> RegisteredFile
-    ensures { result ≡ record { number = number.now; status = Obsolete; family = None } }
-{
-    RegisteredFile {
-        number: *number,
-        status: FileStatus::Obsolete,
-        family: None,
     }
 }

@@ -13,7 +13,7 @@ use crate::queue;
 use std::alloc::Global;
 use std::collections::{BTreeMap, VecDeque};
 use std::marker::Model;
-use sv_model::{FileNumber, FileStatus, OutOfMemory, RegisteredFile};
+use sv_model::{FamilyId, FileNumber, FileStatus, OutOfMemory, RegisteredFile};
 
 /// Every file number ever registered, in that order. Contracts see the list.
 #[derive(Drop)]
@@ -82,20 +82,30 @@ impl Numbers {
     }
 
     /// Registers one number more, which is new.
-    pub(crate) fn push(&mut self, file: RegisteredFile) -> Result<(), OutOfMemory>
-        requires { registered file.number self.old ≡ 0 }
-        ensures ok { OnOk result (self.new ≡ self.old ++ file ∷ []) }
+    pub(crate) fn push(
+        &mut self,
+        number: u64,
+        status: FileStatus,
+        family: Option<FamilyId>,
+    ) -> Result<(), OutOfMemory>
+        requires { registered number self.old ≡ 0 }
+        ensures ok { OnOk result
+            (self.new ≡ self.old ++ record { number = number; status = status; family = family } ∷ []) }
         ensures err { OnErr result (self.new ≡ self.old) }
     {
-        let number = file.number.0;
-        let (at, waiting) = (self.files.len(), self.obsolete.len());
+        let at = self.files.len();
+        let waiting = self.obsolete.len();
         self.files.reserve(1)?;
         self.obsolete.reserve(at + 1 - waiting)?;
         if self.places.insert(number, at).is_err() {
             return Err(OutOfMemory);
         }
-        self.files.push_reserved(file);
-        queue::set(&mut self.obsolete, number, false, is_obsolete(file.status));
+        self.files.push_reserved(RegisteredFile {
+            number: FileNumber(number),
+            status,
+            family,
+        });
+        queue::set(&mut self.obsolete, number, false, is_obsolete(status));
         Ok(())
     }
 
@@ -105,9 +115,9 @@ impl Numbers {
         ensures { (last : RegisteredFile) × (self.old ≡ self.new ++ last ∷ []) }
     {
         let last = self.files.take_last();
-        let number = last.number.0;
+        let (number, waited) = (number_of(&last), is_obsolete(last.status));
         let _ = self.places.remove(&number);
-        queue::set(&mut self.obsolete, number, is_obsolete(last.status), false);
+        queue::set(&mut self.obsolete, number, waited, false);
     }
 
     /// Gives a registered number another status. Answers what it was. Takes no memory.
@@ -117,7 +127,8 @@ impl Numbers {
     {
         let at = position(&self.places, number);
         let was = self.files[at];
-        self.files[at].status = now;
+        let file = &mut self.files[at];
+        file.status = now;
         queue::set(
             &mut self.obsolete,
             number,
@@ -132,6 +143,12 @@ fn is_obsolete(status: FileStatus) -> bool
     ensures { result ≡ is_obsolete status }
 {
     matches!(status, FileStatus::Obsolete)
+}
+
+fn number_of(file: &RegisteredFile) -> u64
+    ensures { result ≡ file.now.number }
+{
+    file.number.0
 }
 
 fn position(places: &BTreeMap<u64, usize>, number: u64) -> usize

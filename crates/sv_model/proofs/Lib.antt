@@ -1,8 +1,16 @@
 pub mod AfterLaws
+pub mod Ascending
+pub mod FlatEnds
+pub mod FlatFirsts
+pub mod FlatKeys
+pub mod FlatLaws
+pub mod FlatRanges
+pub mod FlatReads
 pub mod Freed
 pub mod KeyOrder
 pub mod Lists
 pub mod Lowering
+pub mod NumberLaws
 pub mod PlaceLaws
 pub mod Ranges
 pub mod Refusing

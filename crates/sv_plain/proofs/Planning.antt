@@ -22,7 +22,7 @@ use Rattle.sv_model.specs.Cells.{Cell}
 use Rattle.sv_cells.specs.Laws as cell_laws
 use Rattle.sv_registry.specs.Laws as laws
 use Rattle.sv_files.specs.Calls.{captured_for}
-use Rattle.sv_files.specs.Laws.{captures}
+use Rattle.sv_model.specs.Numbers.{captures}
 use Rattle.sv_plain.specs.declared.immutables.Immutable.{Immutable}
 use Rattle.sv_plain.specs.Immutables.{ImmutablesJoin}
 use Rattle.sv_plain.specs.Due.{FlushMoment, flush_fault, has_rows}

@@ -161,7 +161,7 @@ switched b is_open reach base serial place list version pack active its memtable
     (record { cell = s.cell; at = entry_here; id = h.it_id; some = short_base; few = few_rows; rows = rows_are }) in (
       n.pack_is,
       record {
-        store = record { own = own_more (length b.memtables) (length memtables) b.journal (omega arith) own; versions = s.store.versions; families = s.store.families };
+        store = record { own = own_more (length b.memtables) (length memtables) b.journal (omega arith) own; versions = s.store.versions; families = s.store.families; free = s.store.free };
         tops = ap (λ o. top_from o (length supers) (length b.versions) ∷ []) is_true;
         supers = hand_over (λ x. x.live) b.supers supers (next_super made version (length b.journal) n.place) _ serial s.supers new_supers s.serial_is refl refl;
         lists = hand_over (λ x. x.live) b.lists new_lists (lists.live_list (s.lists.last.members ++ active.id ∷ [])) _ list s.lists lists_is s.list_is refl refl;

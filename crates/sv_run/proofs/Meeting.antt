@@ -13,7 +13,8 @@ use Rattle.sv_script.specs.declared.Reply.TheVariants as reply
 use Rattle.sv_script.specs.Answered.{Answered, handle_of, seen, flushed, fault_by}
 use Rattle.sv_script.specs.ReplyLaw.{due, handle_fault, WriteMet, ReadMet, FlushMet}
 use Rattle.sv_plain.specs.Due.{WriteMoment, ReadMoment, FlushMoment, fault_of}
-use Rattle.sv_plain.specs.Held.{Holds, OthersStay}
+use Rattle.sv_model.specs.HeldFiles.{OthersStay}
+use Rattle.sv_plain.specs.Held.{Holds}
 use Rattle.sv_plain.specs.Store.{last_files, write_count}
 use Rattle.sv_run.specs.States.{State, state_of, IsReady}
 use Rattle.sv_run.specs.Steps.{Steps}

@@ -15,7 +15,7 @@ use Rattle.sv_script.specs.declared.Command.TheVariants as command
 use Rattle.sv_script.specs.declared.Reply.TheVariants as reply
 use Rattle.sv_script.specs.Answered.{Answered, handle_of, change_asked, fault_by}
 use Rattle.sv_script.specs.ReplyLaw.{due, handle_fault, Refused, Met, ReplyFits}
-use Rattle.sv_plain.specs.Held.{OthersStay}
+use Rattle.sv_model.specs.HeldFiles.{OthersStay}
 use Rattle.sv_plain.specs.Store.{IsNumberedFrom}
 use Rattle.sv_run.specs.States.{State, IsReady, LeavesOthers}
 use Rattle.sv_run.specs.Steps.{Knows, Steps}

@@ -14,7 +14,8 @@ use Rattle.sv_script.specs.declared.Reply.{Reply}
 use Rattle.sv_script.specs.declared.LaneReport.{LaneReport}
 use Rattle.sv_script.specs.Answered.{answered, faults_told}
 use Rattle.sv_plain.specs.Closed.{EndsAs, IsClosed}
-use Rattle.sv_plain.specs.Held.{Both, GoneAreAbsent, Holds, OthersStay}
+use Rattle.sv_model.specs.HeldFiles.{GoneAreAbsent, OthersStay}
+use Rattle.sv_plain.specs.Held.{Both, Holds}
 use Rattle.sv_plain.specs.Store.{IsNumberedFrom}
 use Rattle.sv_run.specs.declared.outcomes.Done.{Done}
 use Rattle.sv_run.specs.Ends.{HasRun, LeavesFiles, faults_at_close}

@@ -22,7 +22,8 @@ use Rattle.sv_script.specs.declared.Command.TheVariants as command
 use Rattle.sv_script.specs.declared.Reply.TheVariants as reply
 use Rattle.sv_script.specs.Answered.{Answered, handle_of}
 use Rattle.sv_script.specs.ReplyLaw.{due, handle_fault, Writes, Gets, Flushes}
-use Rattle.sv_plain.specs.Held.{Both, Holds, OthersStay}
+use Rattle.sv_model.specs.HeldFiles.{OthersStay}
+use Rattle.sv_plain.specs.Held.{Both, Holds}
 use Rattle.sv_plain.specs.Settled.{IsWritten, IsFlushed}
 use Rattle.sv_plain.specs.Store.{IsOpen, IsNumberedFrom, last_files, write_count}
 use Rattle.sv_run.specs.States.{State, state_of, IsReady, LeavesOthers}
@@ -31,6 +32,7 @@ use Rattle.sv_run.proofs.Following.{after-same}
 use Rattle.sv_run.proofs.Keeping.{both-same, held-on, others-same, write_count-own, numbered-same, reach_of-push, rose-none}
 use Rattle.sv_run.proofs.Lasting.{written-later, looks-later, output-later}
 use Rattle.sv_run.proofs.Refusing.{through}
+use Rattle.sv_model.specs.Flat.{plain}
 
 -- ---- writes
 
@@ -206,7 +208,7 @@ ready-turned old new ready h = record {
   held = held-on old.books new.books old.files new.files h.holds ready.held;
 }
 
-file_is : (file : FileMeta) → file.bottom ≡ false → file ≡ record { number = file.number; from = file.from; to = file.to; bottom = false }
+file_is : (file : FileMeta) → file.bottom ≡ plain → file ≡ record { number = file.number; from = file.from; to = file.to; bottom = plain }
 file_is file above = λ i. record { number = file.number; from = file.from; to = file.to; bottom = above i }
 
 flushes : (old new later : Books) (earlier : List Answered) (file : FileMeta) → IsFlushed old new file → new.journal ≡ old.journal → Knows old earlier → Follows new later → Flushes later earlier file.number file.from file.to 0

@@ -14,7 +14,7 @@ use Rattle.sv_script.specs.declared.Command.{Command}
 use Rattle.sv_script.specs.declared.Reply.{Reply}
 use Rattle.sv_script.specs.Answered.{Answered, accepted, change_asked, seen, newest_serial, flushed, newest_file, shown_by, serial_by, flushed_by, file_by, fault_by, faults_told}
 use Rattle.sv_script.specs.ReplyLaw.{ReplyFits, CutIs}
-use Rattle.sv_plain.specs.Held.{OthersStay}
+use Rattle.sv_model.specs.HeldFiles.{OthersStay}
 use Rattle.sv_run.specs.States.{State}
 use Rattle.sv_run.specs.Steps.{Knows, IsShown, Steps}
 use Rattle.sv_run.specs.Told.{Told}

@@ -21,7 +21,8 @@ use Rattle.sv_script.specs.ReplyLaw.{RepliesFit, GetsSeeAll}
 use Rattle.sv_script.specs.ReportTexts.{report_text}
 use Rattle.sv_script.specs.Script.{script_of}
 use Rattle.sv_plain.specs.Closed.{IsClosed}
-use Rattle.sv_plain.specs.Held.{Both, GoneAreAbsent, Holds, OthersStay}
+use Rattle.sv_model.specs.HeldFiles.{GoneAreAbsent, OthersStay}
+use Rattle.sv_plain.specs.Held.{Both, Holds}
 use Rattle.sv_run.specs.Handed.{Input, Directory, Output, KeepsFiles, IsUntouched}
 use Rattle.sv_run.specs.RunWords.{AreRun}
 use Rattle.sv_run.specs.Transfers.{IsLong, AppendsPart}
