@@ -8,7 +8,12 @@ use Rattle.sv_model.specs.Families.{first_options}
 
 -- the family that a lane makes: it alone has a handle
 abbrev pub new_family : ℕ → List ℕ → Family
-new_family lane name = record { name = name; options = first_options; dropped = false; handles = slice_set (replicate 32 false) lane true }
+new_family lane name = record {
+  name = name;
+  options = first_options;
+  dropped = false;
+  handles = slice_set (replicate 32 false) lane true;
+}
 
 -- The lane made a family of this name, which has the next id.
 pub record IsCreated (old : List Family) (lane : ℕ) (name : List ℕ) (id : ℕ) (new : List Family) : Type 0 where

@@ -25,7 +25,7 @@ use Rattle.sv_memtable.specs.Index.{numbers_of_key, numbers_at, IsIndexed, numbe
 use Rattle.sv_memtable.specs.Freezing.{IsFrozenOf}
 use Rattle.sv_memtable.proofs.NumberedRows.{LeadsBack, all_lead_back}
 use Rattle.sv_memtable.proofs.Indexing.{IsOfRow, numbers_within}
-use Rattle.sv_memtable.proofs.FrozenRows.{EachPair, all_weaker, all_reverse, pairs_reverse, before, ordered_from_pairs, numbers_rise}
+use Rattle.sv_memtable.proofs.FrozenRows.{EachPair, all_weaker, all_reverse, pairs_reverse, before, ordered_from_pairs, added_rise}
 
 -- the rows of these numbers, list by list, of each list the last first
 abbrev pub copies_of : List Row → List (List ℕ) → List Numbered
@@ -283,6 +283,6 @@ module _ (rows : List Row) (index : BTreeMap (List ℕ) (List ℕ)) (h : IsIndex
       let is : copies ≡ by_keys ns (keys index) = e ∙ copies_by_keys rows index.entries leads_there in
       let whole : filter (has_key (keys index)) ns ≡ ns = keep_all (has_key (keys index)) ns (all_there ns [] refl) in
       subst (IsFrozenOf rows) (sym is) (record {
-        ordered = ordered_from_pairs (by_keys ns (keys index)) (in_order ns (numbers_rise 0 rows) (keys index) up);
+        ordered = ordered_from_pairs (by_keys ns (keys index)) (in_order ns (added_rise 0 rows) (keys index) up);
         all = subst (λ l. IsPermutation l (by_keys ns (keys index))) whole (each_once ns (keys index) up);
       })

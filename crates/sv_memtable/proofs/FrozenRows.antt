@@ -16,9 +16,10 @@ use Rattle.sv_model.specs.Journal.{same_key, newest_row, newest_op}
 use Rattle.sv_model.specs.Order.{is_below, comes_before, OrderedFrom, OrderedBy, first_upto, key_of_numbered, number_of}
 use Rattle.sv_model.specs.Registers.{entry}
 use Rattle.sv_model.proofs.KeyOrder.{same_eq, below_trans, below_other}
+use Rattle.sv_model.proofs.FlatLaws.{length_numbered}
 use Rattle.sv_model.proofs.SearchLaws.{ordered_rest}
 use Rattle.sv_memtable.specs.Freezing.{IsFrozenOf, bearing, added_upto, added_of}
-use Rattle.sv_memtable.proofs.NumberedRows.{find-reverse, is_upto, newest_upto, newest_row-last, LeadsBack, all_lead_back, length-numbered}
+use Rattle.sv_memtable.proofs.NumberedRows.{is_upto, newest_among, LeadsBack, all_lead_back}
 
 -- ---- what holds of each item and each later one
 
@@ -103,9 +104,9 @@ later_numbers : (low at : ℕ) (rows : List Row) → low ≤ at → AllByRecursi
 later_numbers low at [] h = tt
 later_numbers low at (row ∷ rows) h = (omega arith, later_numbers low (suc at) rows (omega arith))
 
-pub numbers_rise : (at : ℕ) (rows : List Row) → EachPair (λ (x y : Numbered). x.number < y.number) (numbered_after at rows)
-numbers_rise at [] = tt
-numbers_rise at (row ∷ rows) = (later_numbers (suc at) (suc at) rows (omega arith), numbers_rise (suc at) rows)
+pub added_rise : (at : ℕ) (rows : List Row) → EachPair (λ (x y : Numbered). x.number < y.number) (numbered_after at rows)
+added_rise at [] = tt
+added_rise at (row ∷ rows) = (later_numbers (suc at) (suc at) rows (omega arith), added_rise (suc at) rows)
 
 -- ---- what a search finds
 
@@ -184,7 +185,7 @@ module _ (added : List Row) (rows : List Numbered) (h : IsFrozenOf added rows) w
       let zs = reverse (numbered_after 0 added) in
       let here = found_in test rows x e in
       let there = found_in test zs y f in
-      let falls : EachPair (Falls test) zs = pairs_weaker (λ (a b : Numbered). b.number < a.number) (Falls test) (λ a b less p q. omega arith) zs (pairs_reverse (λ (a b : Numbered). a.number < b.number) (numbered_after 0 added) (numbers_rise 0 added)) in
+      let falls : EachPair (Falls test) zs = pairs_weaker (λ (a b : Numbered). b.number < a.number) (Falls test) (λ a b less p q. omega arith) zs (pairs_reverse (λ (a b : Numbered). a.number < b.number) (numbered_after 0 added) (added_rise 0 added)) in
       let back_y = from_reverse y there.0 in
       let to_x = to_reverse x here.0 in
       let up : y.number ≤ x.number = greatest_at test rows x back_y.0 y fall e back_y.1 back_y.2 there.1 in
@@ -205,9 +206,8 @@ module _ (added : List Row) (rows : List Numbered) (h : IsFrozenOf added rows) w
   found_upto key upto =
       let test = is_upto key upto in
       let fall : EachPair (Falls test) rows = pairs_weaker (λ x y. before x y ≡ true) (Falls test) (falls_upto key upto) rows (ordered_pairs rows h.ordered) in
-      ap (option_map (λ (n : Numbered). n.row)) (agree test (find test rows) (find test (reverse (numbered_after 0 added))) fall refl refl ∙ find-reverse test (numbered_after 0 added))
-      ∙ newest_upto key 0 upto upto added (omega arith)
-      ∙ sym (newest_row-last key (take upto added))
+      ap (option_map (λ (n : Numbered). n.row)) (agree test (find test rows) (find test (reverse (numbered_after 0 added))) fall refl refl)
+      ∙ newest_among key upto added
 
   -- so is what a search among them answers
   pub op_upto : (key : List ℕ) (upto cut : ℕ) (items : List Numbered) (o : Option Numbered) → items ≡ rows → cut ≡ upto → (OrderedBy key_of_numbered number_of items → o ≡ first_upto key_of_numbered number_of key cut items) → option_map (λ (n : Numbered). n.row.op) o ≡ newest_op key (take upto added)
@@ -224,7 +224,7 @@ module _ (added : List Row) (rows : List Numbered) (h : IsFrozenOf added rows) w
       map_twice (Some n) = refl
 
   pub as_many : length rows ≡ length added
-  as_many = length_permutation (numbered_after 0 added) rows h.all ∙ length-numbered 0 added
+  as_many = length_permutation (numbered_after 0 added) rows h.all ∙ length_numbered 0 added
 
   -- ---- the added rows again
   bears : (n : ℕ) (o : Option Numbered) (p : Option Row) → find (λ (x : Numbered). x.number == suc n) rows ≡ o → slice_get added n ≡ p → option_map (λ (x : Numbered). x.row) o ≡ p

@@ -20,7 +20,7 @@ use Rattle.sv_model.specs.Registers.{entry}
 use Rattle.sv_model.proofs.KeyOrder.{same_eq}
 use Rattle.sv_memtable.specs.declared.cells.TheConstants.{MAX_ROWS}
 use Rattle.sv_memtable.specs.Index.{numbers_of_key, numbers_at, IsIndexed, Notes, LeadsAsBefore}
-use Rattle.sv_memtable.proofs.NumberedRows.{find_last, find-reverse, if_last, last_of_chosen, is_upto, newest_upto, newest_row-last, Bears, all_bear, LeadsBack, all_lead_back, numbered-push}
+use Rattle.sv_memtable.proofs.NumberedRows.{find_last, find-reverse, if_last, last_of_chosen, is_upto, newest_among, Bears, all_bear, LeadsBack, all_lead_back, numbered-push}
 
 -- ---- a row is added
 
@@ -120,8 +120,8 @@ found_upto rows key upto =
     find-reverse (λ n. nat_le n upto) (numbers_of_key key rows)
     ∙ last_of_chosen number_of (λ n. nat_le n upto) (λ n. same_key key (key_of_numbered n)) ns)
     ∙ back rows (find_last (is_upto key upto) ns) (if_last (LeadsBack rows) (is_upto key upto) ns (all_lead_back rows))
-    ∙ newest_upto key 0 upto upto rows (omega arith)
-    ∙ sym (newest_row-last key (take upto rows))
+    ∙ sym (ap (option_map (λ (n : Numbered). n.row)) (find-reverse (is_upto key upto) ns))
+    ∙ newest_among key upto rows
 
 -- the last number of a key is that of a row
 pub last_within : (rows : List Row) (key older : List ℕ) (number : ℕ) → numbers_of_key key rows ≡ older ++ number ∷ [] → IsOfRow rows number

@@ -50,12 +50,12 @@ rising-same [] (y ∷ ys) p q both = absurd (in_none y ((both y).1 (in-here y ys
 rising-same (x ∷ xs) [] p q both = absurd (in_none x ((both x).0 (in-here x xs)))
 rising-same (x ∷ xs) (y ∷ ys) p q both =
     let head : x ≡ y = ⊎_elim
-        (λ e. e)
-        (λ there. ⊎_elim
-            (λ e. sym e)
-            (λ here. (let a = q.0 x there in let b = p.0 y here in absurd (omega arith)))
-            (in_cons y x xs ((both y).1 (in-here y ys))))
-        (in_cons x y ys ((both x).0 (in-here x xs))) in
+    (λ e. e)
+    (λ there. ⊎_elim
+    (λ e. sym e)
+    (λ here. (let a = q.0 x there in let b = p.0 y here in absurd (omega arith)))
+    (in_cons y x xs ((both y).1 (in-here y ys))))
+    (in_cons x y ys ((both x).0 (in-here x xs))) in
     let tail : xs ≡ ys = rising-same xs ys p.1 q.1 (λ n. (
       (λ i. ⊎_elim (λ e. (let a = p.0 n i in absurd (omega arith))) (λ j. j) (in_cons n y ys ((both n).0 (in-later n x xs i)))),
       (λ i. ⊎_elim (λ e. (let a = q.0 n i in absurd (omega arith))) (λ j. j) (in_cons n x xs ((both n).1 (in-later n y ys i)))),
@@ -71,9 +71,9 @@ in_place n x [] h = in_cons n x [] h
 in_place n x (y ∷ ys) h = ⊎_elim
     (λ lt. in_cons n x (y ∷ ys) (subst (λ b. In n (cond b (x ∷ y ∷ ys) (y ∷ place_number x ys))) lt.0 h))
     (λ le. ⊎_elim
-        (λ e. inr (record { at = 0; is = ap Some (sym e) }))
-        (λ i. ⊎_elim (λ e. inl e) (λ j. inr (in-later n y ys j)) (in_place n x ys i))
-        (in_cons n y (place_number x ys) (subst (λ b. In n (cond b (x ∷ y ∷ ys) (y ∷ place_number x ys))) le.0 h)))
+    (λ e. inr (record { at = 0; is = ap Some (sym e) }))
+    (λ i. ⊎_elim (λ e. inl e) (λ j. inr (in-later n y ys j)) (in_place n x ys i))
+    (in_cons n y (place_number x ys) (subst (λ b. In n (cond b (x ∷ y ∷ ys) (y ∷ place_number x ys))) le.0 h)))
     (place_cases x y)
 
 place-in : (n x : ℕ) (ys : List ℕ) → (n ≡ x) ⊎ In n ys → In n (place_number x ys)
@@ -81,16 +81,16 @@ place-in n x [] h = ⊎_elim (λ e. record { at = 0; is = ap Some (sym e) }) (λ
 place-in n x (y ∷ ys) h = ⊎_elim
     (λ lt. subst (λ b. In n (cond b (x ∷ y ∷ ys) (y ∷ place_number x ys))) (sym lt.0) (⊎_elim (λ e. record { at = 0; is = ap Some (sym e) }) (λ i. in-later n x (y ∷ ys) i) h))
     (λ le. subst (λ b. In n (cond b (x ∷ y ∷ ys) (y ∷ place_number x ys))) (sym le.0) (⊎_elim
-        (λ e. in-later n y (place_number x ys) (place-in n x ys (inl e)))
-        (λ i. ⊎_elim (λ e. record { at = 0; is = ap Some (sym e) }) (λ j. in-later n y (place_number x ys) (place-in n x ys (inr j))) (in_cons n y ys i))
-        h))
+    (λ e. in-later n y (place_number x ys) (place-in n x ys (inl e)))
+    (λ i. ⊎_elim (λ e. record { at = 0; is = ap Some (sym e) }) (λ j. in-later n y (place_number x ys) (place-in n x ys (inr j))) (in_cons n y ys i))
+    h))
     (place_cases x y)
 
 place_rises : (x : ℕ) (ys : List ℕ) → Rises ys → (In x ys → ⊥) → Rises (place_number x ys)
 place_rises x [] h apart = ((λ n i. absurd (in_none n i)), tt)
 place_rises x (y ∷ ys) h apart = ⊎_elim
     (λ lt. subst (λ b. Rises (cond b (x ∷ y ∷ ys) (y ∷ place_number x ys))) (sym lt.0)
-        ((λ n i. ⊎_elim (λ e. (let q = lt.1 in omega arith)) (λ j. (let a = h.0 n j in let q = lt.1 in omega arith)) (in_cons n y ys i)), h))
+    ((λ n i. ⊎_elim (λ e. (let q = lt.1 in omega arith)) (λ j. (let a = h.0 n j in let q = lt.1 in omega arith)) (in_cons n y ys i)), h))
     (λ le. subst (λ b. Rises (cond b (x ∷ y ∷ ys) (y ∷ place_number x ys))) (sym le.0) (
       (λ n i. ⊎_elim
           (λ e. (let other : y ≢ x = λ q. apart (record { at = 0; is = ap Some q }) in let q = le.1 in omega arith))

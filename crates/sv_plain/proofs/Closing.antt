@@ -14,7 +14,7 @@ use Rattle.sv_model.specs.After.{KeepsNumber}
 use Rattle.sv_model.specs.Lists.{In}
 use Rattle.sv_model.specs.Named.{numbers_of}
 use Rattle.sv_model.specs.Registers.{entry, GoesOn}
-use Rattle.sv_model.specs.Summaries.{obsolete_of}
+use Rattle.sv_model.specs.Summaries.{obsolete_of, obsolete_registered}
 use Rattle.sv_model.specs.Books.{Books, FileRegister, files_of}
 use Rattle.sv_model.proofs.Registers.{entry_le}
 use Rattle.sv_model.specs.Files.{Files, file_of, file_name}
@@ -30,6 +30,7 @@ use Rattle.sv_plain.specs.Held.{Both, Holds}
 use Rattle.sv_plain.specs.Removed.{CountsAs, IsRemoval, MayBeGone, Removes, count_obsolete}
 use Rattle.sv_plain.specs.Stands.{IsKept, IsStore, Stands}
 use Rattle.sv_plain.specs.Store.{last_files, top_of}
+use Rattle.sv_model.proofs.Ascending.{length-ascending}
 use Rattle.sv_model.proofs.NumberLaws.{entries_apart}
 use Rattle.sv_plain.proofs.Ending.{some_entry}
 use Rattle.sv_plain.proofs.Lasts.{entry_last, live_last}
@@ -235,6 +236,9 @@ no_length [] e = refl
 no_length (x ∷ l) e = absurd (omega (arith, e))
 
 pub ends_as : (ending : End) (b : Books) (before now : ℕ) → CountsAs ending (count_obsolete b.files.numbers) before now → EndsAs ending b before now
-ends_as end.Clean b before now h = no_length (obsolete_of b.files.numbers) h
-ends_as end.DirFault b before now h = h
-ends_as end.OutOfMemory b before now h = h
+ends_as ending b before now h = by ending (subst (λ n. CountsAs ending n before now) (sym (length-ascending (obsolete_registered b.files.numbers))) h)
+  where
+    by : (ending : End) → CountsAs ending (length (obsolete_of b.files.numbers)) before now → EndsAs ending b before now
+    by end.Clean h = no_length (obsolete_of b.files.numbers) h
+    by end.DirFault h = h
+    by end.OutOfMemory h = h
