@@ -1,4 +1,5 @@
 pub mod Freed
+pub mod HolderLaws
 pub mod Lists
 pub mod Lowering
 pub mod PlaceLaws

@@ -3,6 +3,7 @@ pub mod Books
 pub mod Counts
 pub mod Faults
 pub mod Flat
+pub mod Holders
 pub mod Journal
 pub mod Lists
 pub mod Moments
