@@ -20,7 +20,8 @@ use Rattle.std.proofs.lemmas.Map.Keys.{IsDistinct-from_sorted}
 use Rattle.std.proofs.lemmas.List.Sums.{fold_push}
 use Rattle.sv_dir.specs.declared.dir.Found.TheVariants as found
 use Rattle.sv_dir.specs.declared.dir.Removal.TheVariants as removal
-use Rattle.sv_dir.specs.Files.{Files, same_name, with_file, ListsEach, Finds, removal_of}
+use Rattle.sv_model.specs.Files.{Files, with_file}
+use Rattle.sv_dir.specs.Files.{same_name, ListsEach, Finds, removal_of}
 use Rattle.sv_dir.specs.MemDir.{entry_of, held, all_put}
 
 -- a look-up in the entries is one in the map

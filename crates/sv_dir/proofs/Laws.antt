@@ -5,8 +5,8 @@ use Rattle.std.specs.Str.{bytes_eq}
 use Rattle.std.proofs.lemmas.Map.Text.{is_eq-slice_cmp}
 use Rattle.std.proofs.lemmas.Slice.Eq.{bytes_eq-Decides}
 use Rattle.std.proofs.lemmas.Bool.Decides.{Decides-like, Decides-eqb, same_from_decides}
-use Rattle.sv_dir.specs.TableNames.{file_name}
-use Rattle.sv_dir.specs.Files.{Files, file_of, same_name, with_file}
+use Rattle.sv_model.specs.Files.{file_name, Files, file_of, with_file}
+use Rattle.sv_dir.specs.Files.{same_name}
 use Rattle.sv_dir.proofs.Held.{get-with_file}
 use Rattle.sv_dir.proofs.ReadBack.{file_name-injective}
 

@@ -8,24 +8,10 @@ use Rattle.sv_dir.specs.declared.dir.Found.{Found}
 use Rattle.sv_dir.specs.declared.dir.Found.TheVariants as found
 use Rattle.sv_dir.specs.declared.dir.Removal.{Removal}
 use Rattle.sv_dir.specs.declared.dir.Removal.TheVariants as removal
-use Rattle.sv_dir.specs.TableNames.{file_name}
-
--- the files, as a map from each name to the file's bytes
-abbrev pub Files : Type 0
-Files = map.FinMap (slice_cmp nat_cmp) (List ℕ)
-
+use Rattle.sv_model.specs.Files.{Files, file_name, with_file}
 -- the names are the same bytes
 abbrev pub same_name : List ℕ → List ℕ → Bool
 same_name name other = is_eq (slice_cmp nat_cmp name other)
-
--- the bytes of the file of that number, if there is one
-abbrev pub file_of : ℕ → Files → Option (List ℕ)
-file_of number files = map.get files (file_name number)
-
--- the files with this at a name: a file of these bytes, or none; the others stay
-abbrev pub with_file : List ℕ → Option (List ℕ) → Files → Files
-with_file name None files = map.remove files name
-with_file name (Some bytes) files = map.insert files name bytes
 
 -- The file of that number is now so, and the other files stay, where files are told.
 abbrev pub Leaves : ℕ → Option (List ℕ) → Option Files → Option Files → Type 0

@@ -1,19 +1,8 @@
 -- The names of table files.
-use Rattle.std.specs.Prelude.{◌==◌, ℕ, ◌-◌, Bool, not, ◌&&◌, ◌||◌, cond, nat_le, List, ◌++◌, length, take, drop, replicate, slice_index, Option, Some, None, decimal, codes, bytes_eq}
+use Rattle.std.specs.Prelude.{◌==◌, ℕ, ◌-◌, Bool, not, ◌&&◌, ◌||◌, cond, nat_le, List, length, take, drop, slice_index, Option, Some, None, bytes_eq}
 use Rattle.std.specs.Str.{all_ascii_digits}
 use Rattle.std.specs.Str.Parse.{digits_value}
-
--- the number in decimal, with leading zeros to at least so many digits
-abbrev pub padded : ℕ → ℕ → List ℕ
-padded least n = replicate (least - length (decimal n)) 48 ++ decimal n
-
--- the ending of each name
-abbrev pub suffix : List ℕ
-suffix = codes ".sst"
-
--- The name of the table file of that number: at least six digits, and then `.sst`.
-unfoldable pub file_name : ℕ → List ℕ
-file_name n = padded 6 n ++ suffix
+use Rattle.sv_model.specs.Files.{suffix}
 
 -- a name without its last four bytes, and these
 abbrev pub stem_of : List ℕ → List ℕ

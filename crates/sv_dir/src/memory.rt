@@ -6,8 +6,8 @@ ghost use Rattle.std.specs.Cmp.Lexicographic.{slice_cmp};
 ghost use Rattle.std.specs.String.{string_cmp};
 ghost use Rattle.std.specs.BTreeMap.{keys, IsOrdered};
 ghost use Rattle.sv_model.specs.Faults.{HasCauseOf};
-ghost use Rattle.sv_dir.specs.TableNames.{file_name as name_of};
-ghost use Rattle.sv_dir.specs.Files.{Files, file_of, PutsFile, LeavesAny, RemovesFile, MayRemove, ListsEach, Finds, removal_of, with_file};
+ghost use Rattle.sv_model.specs.Files.{file_name as name_of, Files, file_of, with_file};
+ghost use Rattle.sv_dir.specs.Files.{PutsFile, LeavesAny, RemovesFile, MayRemove, ListsEach, Finds, removal_of};
 ghost use Rattle.sv_dir.specs.Fails.{FailsWhere, UnlessMemory, put_as, remove_as};
 
 use crate::dir::{Dir, DirError, Found, Removal};

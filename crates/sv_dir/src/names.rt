@@ -3,8 +3,8 @@ ghost use Rattle.std.specs.Prelude.{◌≡◌, ◌≤◌, ◌+◌, ◌<◌, ◌^
 ghost use Rattle.std.specs.List.{list_all};
 ghost use Rattle.std.specs.Char.{is_ascii_digit};
 ghost use Rattle.arrayvec.specs.ArrayString.{array_string_len};
-ghost use Rattle.sv_dir.specs.TableNames.{padded, is_spelled, file_name as name_of, number_named};
-
+ghost use Rattle.sv_model.specs.Files.{padded, file_name as name_of};
+ghost use Rattle.sv_dir.specs.TableNames.{is_spelled, number_named};
 use arrayvec::ArrayString;
 use sv_model::FileNumber;
 

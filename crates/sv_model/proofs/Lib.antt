@@ -1,3 +1,4 @@
+pub mod AfterLaws
 pub mod Freed
 pub mod HolderLaws
 pub mod Lists
@@ -7,3 +8,4 @@ pub mod Ranges
 pub mod Refusing
 pub mod Registers
 pub mod KeyOrder
+pub mod SearchLaws

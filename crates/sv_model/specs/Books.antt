@@ -9,6 +9,7 @@ use Rattle.sv_model.specs.declared.records.RegisteredFile.{RegisteredFile}
 use Rattle.sv_model.specs.declared.records.FileMeta.{FileMeta}
 use Rattle.sv_model.specs.declared.records.Family.{Family}
 use Rattle.sv_model.specs.declared.records.Top.{Top}
+use Rattle.sv_model.specs.declared.records.Snapshot.{Snapshot}
 use Rattle.sv_model.specs.Journal.{borne_by}
 use Rattle.sv_model.specs.Registers.{entry}
 
@@ -31,12 +32,13 @@ pub record Books : Type 0 where
   pub lists : List MemtableList
   pub versions : List Version
   pub files : FileRegister
-  -- what each captured number that was written or is being written covers
+  -- what the file of each captured number covers, in the order of the captures
   pub metas : List FileMeta
   -- by id, from 0
   pub families : List Family
   -- by family, its current SuperVersion and its last Version
   pub tops : List Top
+  pub snapshots : List Snapshot
 
 -- the number of writes of its family that a SuperVersion ends with
 abbrev pub end_of : List Write → SuperVersion → ℕ

@@ -1,5 +1,5 @@
 -- A flat: of each key and each interval between cuts the newest write, among a range of a family's writes.
-use Rattle.std.specs.Prelude.{◌≡◌, ◌≤◌, ℕ, suc, Bool, true, false, cond, ◌&&◌, ◌==◌, nat_le, List, [], ◌∷◌, ◌++◌, Option, Some, find, take, drop, reverse, option_map, unwrap_or, length}
+use Rattle.std.specs.Prelude.{◌≡◌, ◌≤◌, ℕ, suc, Bool, true, false, cond, ◌&&◌, ◌==◌, nat_le, List, [], ◌∷◌, ◌++◌, Option, find, take, drop, reverse, option_map, unwrap_or, length}
 use Rattle.std.specs.List.{filter, filter_map}
 use Rattle.sv_model.specs.declared.writes.Write.{Write}
 use Rattle.sv_model.specs.declared.writes.Row.{Row}

@@ -1,10 +1,14 @@
 -- Words on lists: what stands in one, how often, each once, in the same order.
-use Rattle.std.specs.Prelude.{◌≡◌, ℕ, ◌+◌, List, [], ◌∷◌, Some, slice_get, cond, ◌==◌, ◌⊎◌, ◌↔◌}
+use Rattle.std.specs.Prelude.{◌≡◌, ℕ, ◌+◌, Bool, List, [], ◌∷◌, Some, slice_get, cond, ◌==◌, ◌⊎◌, ◌↔◌}
 
 -- the item stands in the list
 pub record In {A : Type 0} (x : A) (l : List A) : Type 0 where
   pub at : ℕ
   pub is : slice_get l at ≡ Some x
+
+-- P holds of each item
+abbrev pub Every : {A : Type 0} → (A → Type 0) → List A → Type 0
+Every {A} P l = (i : ℕ) (x : A) → slice_get l i ≡ Some x → P x
 
 -- each item stands in the list once
 abbrev pub Distinct : {A : Type 0} → List A → Type 0
@@ -20,6 +24,10 @@ IsPartOf (x ∷ xs) (y ∷ ys) = ((x ≡ y) × IsPartOf xs ys) ⊎ IsPartOf (x �
 abbrev pub total : {A : Type 0} → (A → ℕ) → List A → ℕ
 total g [] = 0
 total g (x ∷ xs) = g x + total g xs
+
+-- 1 where it is so
+abbrev pub bit : Bool → ℕ
+bit b = cond b 1 0
 
 -- 1 where both numbers are the same, else 0
 abbrev pub same : ℕ → ℕ → ℕ

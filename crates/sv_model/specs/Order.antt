@@ -24,6 +24,10 @@ abbrev pub OrderedBy : {A : Type 0} → (A → List ℕ) → (A → ℕ) → Lis
 OrderedBy key rank [] = Unit {0}
 OrderedBy key rank (x ∷ xs) = OrderedFrom key rank x xs
 
+-- the item stands ahead of the items of a key whose rank is at most this
+abbrev pub is_ahead : {A : Type 0} → (A → List ℕ) → (A → ℕ) → List ℕ → ℕ → A → Bool
+is_ahead key rank wanted upto item = is_below (key item) wanted || (same_key wanted (key item) && nat_lt upto (rank item))
+
 -- the first item of a key whose rank is at most this
 abbrev pub first_upto : {A : Type 0} → (A → List ℕ) → (A → ℕ) → List ℕ → ℕ → List A → Option A
 first_upto key rank wanted upto items = find (λ x. same_key wanted (key x) && nat_le (rank x) upto) items

@@ -15,6 +15,10 @@ change l (suc n) x = slice_set l n x
 abbrev pub Has : {A : Type 0} → (A → Type 0) → List A → Type 0
 Has {A} P l = (n : ℕ) × (x : A) × (entry l n ≡ Some x) × P x
 
+-- P holds of each object, by its number and its record
+abbrev pub EachEntry : {A : Type 0} → (ℕ → A → Type 0) → List A → Type 0
+EachEntry {A} P l = (n : ℕ) (x : A) → entry l n ≡ Some x → P n x
+
 -- Each object of a register is in the later register, and its records are related.
 abbrev pub GoesOn : {A : Type 0} → (A → A → Type 0) → List A → List A → Type 0
 GoesOn {A} R a b = (n : ℕ) (x : A) → entry a n ≡ Some x → (y : A) × (entry b n ≡ Some y) × R x y

@@ -16,8 +16,8 @@ use Rattle.sv_model.specs.Registers.{entry, GoesOn}
 use Rattle.sv_model.specs.Summaries.{obsolete_of}
 use Rattle.sv_model.specs.Books.{Books, FileRegister, files_of}
 use Rattle.sv_model.proofs.Registers.{entry_le}
-use Rattle.sv_dir.specs.Files.{Files, file_of, same_name}
-use Rattle.sv_dir.specs.TableNames.{file_name}
+use Rattle.sv_model.specs.Files.{Files, file_of, file_name}
+use Rattle.sv_dir.specs.Files.{same_name}
 use Rattle.sv_dir.proofs.Laws.{same_name-file_name}
 use Rattle.sv_memtable.specs.Cell.{Cell}
 use Rattle.sv_files.specs.Calls.{IsRegistered}

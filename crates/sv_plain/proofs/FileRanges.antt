@@ -12,7 +12,7 @@ use Rattle.sv_model.specs.Journal.{newest_op}
 use Rattle.sv_model.specs.Lists.{In}
 use Rattle.sv_model.specs.Named.{numbers_of}
 use Rattle.sv_model.specs.Ranges.{FilesJoin, reach_from, reach_of}
-use Rattle.sv_dir.specs.Files.{Files, file_of}
+use Rattle.sv_model.specs.Files.{Files, file_of}
 use Rattle.sv_plain.specs.Held.{IsFileText}
 use Rattle.sv_plain.specs.Immutables.{newer_or}
 use Rattle.sv_plain.specs.Lookups.{HoldEach, ReadFault, FilesFault}

@@ -13,7 +13,7 @@ use Rattle.sv_model.specs.declared.FileStatus.TheVariants.{Live, Obsolete}
 use Rattle.sv_model.specs.Ranges.{reach_of}
 use Rattle.sv_model.specs.Books.{FileRegister, files_of}
 use Rattle.sv_model.specs.Faults.{RoseBy}
-use Rattle.sv_dir.specs.Files.{Files}
+use Rattle.sv_model.specs.Files.{Files}
 use Rattle.sv_plain.specs.declared.parts.Parts.{Parts}
 use Rattle.sv_plain.specs.Due.{flush_fault, fault_of}
 use Rattle.sv_plain.specs.Flushing.{IsFinished, IsLeftBehind, IsNumbered, LeftAs, SettlesAs}

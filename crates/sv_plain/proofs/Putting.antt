@@ -16,8 +16,8 @@ use Rattle.sv_model.specs.Journal.{of_family}
 use Rattle.sv_model.specs.Lists.{In}
 use Rattle.sv_model.specs.Registers.{entry, GoesOn, Has}
 use Rattle.sv_model.proofs.Registers.{entry_push}
-use Rattle.sv_dir.specs.Files.{Files, LeavesAny, PutsFile, file_of, same_name, with_file}
-use Rattle.sv_dir.specs.TableNames.{file_name}
+use Rattle.sv_model.specs.Files.{Files, file_of, with_file, file_name}
+use Rattle.sv_dir.specs.Files.{LeavesAny, PutsFile, same_name}
 use Rattle.sv_dir.proofs.Laws.{file_of-with_file}
 use Rattle.sv_plain.specs.Held.{Both, Holds, IsFileText, OthersStay}
 use Rattle.sv_plain.specs.Store.{last_files, top_of}

@@ -9,8 +9,8 @@ use Rattle.sv_model.specs.declared.RegisteredFile.{RegisteredFile}
 use Rattle.sv_model.specs.Books.{FileRegister}
 use Rattle.sv_model.specs.Registers.{entry, change}
 use Rattle.sv_model.proofs.Registers.{entry_change, entry_le, length-change}
-use Rattle.sv_dir.specs.Files.{Files, MayRemove, RemovesFile, file_of, same_name, with_file}
-use Rattle.sv_dir.specs.TableNames.{file_name}
+use Rattle.sv_model.specs.Files.{Files, file_of, with_file, file_name}
+use Rattle.sv_dir.specs.Files.{MayRemove, RemovesFile, same_name}
 use Rattle.sv_files.specs.Calls.{IsRegistered, MarksOnly}
 use Rattle.sv_plain.specs.Held.{Both}
 use Rattle.sv_plain.specs.Removed.{IsRemoval, MayBeGone, Removes}

@@ -8,7 +8,8 @@ use Rattle.sv_model.specs.Books.{FileRegister}
 use Rattle.sv_model.specs.Faults.{HasCauseOf}
 use Rattle.sv_dir.specs.declared.DirError.{DirError}
 use Rattle.sv_dir.specs.declared.DirError.TheVariants as dir_error
-use Rattle.sv_dir.specs.Files.{Files, MayRemove, RemovesFile}
+use Rattle.sv_model.specs.Files.{Files}
+use Rattle.sv_dir.specs.Files.{MayRemove, RemovesFile}
 use Rattle.sv_files.specs.Calls.{IsLeastObsolete, MarksOnly}
 use Rattle.sv_plain.specs.Held.{Both}
 use Rattle.sv_plain.specs.Removed.{CountsAs, IsRemoval, Removes, count_obsolete, end_after}

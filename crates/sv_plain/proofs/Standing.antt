@@ -17,7 +17,7 @@ use Rattle.sv_model.specs.Moments.{WasCapturedFor}
 use Rattle.sv_model.specs.Named.{numbers_of}
 use Rattle.sv_model.specs.Reads.{Serves}
 use Rattle.sv_model.specs.Registers.{entry}
-use Rattle.sv_dir.specs.Files.{Files}
+use Rattle.sv_model.specs.Files.{Files}
 use Rattle.sv_plain.specs.declared.parts.Parts.{Parts}
 use Rattle.sv_plain.specs.Due.{ReadMoment}
 use Rattle.sv_plain.specs.Held.{Holds}

@@ -13,7 +13,7 @@ use Rattle.sv_model.specs.Journal.{of_family}
 use Rattle.sv_model.specs.Lists.{In}
 use Rattle.sv_model.specs.Registers.{GoesOn}
 use Rattle.sv_model.proofs.Registers.{entry_le}
-use Rattle.sv_dir.specs.Files.{Files}
+use Rattle.sv_model.specs.Files.{Files}
 use Rattle.sv_plain.specs.declared.parts.Parts.{Parts}
 use Rattle.sv_plain.specs.Alone.{IsAlone}
 use Rattle.sv_plain.specs.Held.{Holds}

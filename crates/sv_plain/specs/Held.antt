@@ -12,9 +12,7 @@ use Rattle.sv_model.specs.TableText.{HasText, table_text}
 use Rattle.sv_model.specs.Lists.{In}
 use Rattle.sv_model.specs.Registers.{entry}
 use Rattle.sv_model.specs.Books.{Books, files_of}
-use Rattle.sv_dir.specs.Files.{Files, file_of}
-use Rattle.sv_dir.specs.TableNames.{file_name}
-
+use Rattle.sv_model.specs.Files.{Files, file_of, file_name}
 -- The bytes are the text of the table that the file's range of writes leaves.
 pub record IsFileText (journal : List Write) (family : ℕ) (file : FileMeta) (bytes : List ℕ) : Type 0 where
   pub rows : List Row

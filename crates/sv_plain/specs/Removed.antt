@@ -11,9 +11,7 @@ use Rattle.sv_model.specs.Registers.{entry}
 use Rattle.sv_model.specs.Summaries.{obsolete_of}
 use Rattle.sv_dir.specs.declared.DirError.{DirError}
 use Rattle.sv_dir.specs.declared.DirError.TheVariants as dir_error
-use Rattle.sv_dir.specs.Files.{Files, file_of}
-use Rattle.sv_dir.specs.TableNames.{file_name}
-
+use Rattle.sv_model.specs.Files.{Files, file_of, file_name}
 -- The number is as it was, or was Obsolete and is Gone.
 abbrev pub MayBeGone : RegisteredFile → RegisteredFile → Type 0
 MayBeGone x y = (y ≡ x) ⊎ ((x.status ≡ Obsolete) × (y ≡ record x { status = Gone }))

@@ -7,7 +7,7 @@ ghost use Rattle.sv_model.specs.Reads.{Serves};
 ghost use Rattle.sv_model.specs.Refusals.{Refuses};
 ghost use Rattle.sv_model.specs.Registers.{entry};
 ghost use Rattle.sv_model.specs.Summaries.{summary_of};
-ghost use Rattle.sv_dir.specs.Files.{Files};
+ghost use Rattle.sv_model.specs.Files.{Files};
 ghost use Rattle.sv_plain.specs.Alone.{IsAlone};
 ghost use Rattle.sv_plain.specs.Closed.{EndsAs, IsClosed};
 ghost use Rattle.sv_plain.specs.Due.{FlushMoment, flush_fault, ReadMoment, WriteMoment, fault_of, is_switch_due, write_fault};

@@ -6,7 +6,7 @@ ghost use Rattle.sv_model.specs.Faults.{RoseBy};
 ghost use Rattle.sv_model.specs.Journal.{look, newest_op, value_of};
 ghost use Rattle.sv_model.specs.Reads.{Serves};
 ghost use Rattle.sv_model.specs.Registers.{entry};
-ghost use Rattle.sv_dir.specs.Files.{Files};
+ghost use Rattle.sv_model.specs.Files.{Files};
 ghost use Rattle.sv_plain.specs.Due.{ReadMoment, fault_of};
 ghost use Rattle.sv_plain.specs.Held.{Holds};
 ghost use Rattle.sv_plain.specs.Immutables.{immutable_op, newer_or};

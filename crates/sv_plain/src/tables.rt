@@ -8,7 +8,7 @@ ghost use Rattle.sv_model.specs.Flat.{Ascends, range_of, row_at};
 ghost use Rattle.sv_model.specs.Journal.{newest_op, value_of};
 ghost use Rattle.sv_model.specs.Ranges.{FilesJoin};
 ghost use Rattle.sv_model.specs.TableText.{HasText, table_text};
-ghost use Rattle.sv_dir.specs.Files.{Files, file_of};
+ghost use Rattle.sv_model.specs.Files.{Files, file_of};
 ghost use Rattle.sv_plain.specs.Due.{fault_of};
 ghost use Rattle.sv_plain.specs.Lookups.{ReadFault, BytesFault, FilesFault, Gives, GivesAs, GivesTable, GivesFlat, HasRange, HoldsText, HoldEach};
 

@@ -11,8 +11,7 @@ use Rattle.sv_model.specs.Registers.{GoesOn}
 use Rattle.sv_model.specs.Books.{Books, FileRegister, files_of}
 use Rattle.sv_model.specs.After.{After, KeepsNumber}
 use Rattle.sv_model.specs.Faults.{RoseBy}
-use Rattle.sv_dir.specs.Files.{Files}
-use Rattle.sv_dir.specs.TableNames.{file_name}
+use Rattle.sv_model.specs.Files.{Files, file_name}
 use Rattle.sv_script.specs.Answered.{Answered}
 use Rattle.sv_plain.specs.Held.{Both, Holds, OthersStay}
 use Rattle.sv_plain.specs.Store.{IsNumberedFrom, IsOpen, last_files, top_of, write_count}

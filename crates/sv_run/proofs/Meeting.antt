@@ -7,7 +7,7 @@ use Rattle.sv_model.specs.Faults.{RoseBy}
 use Rattle.sv_model.specs.Books.{Books}
 use Rattle.sv_model.specs.After.{After}
 use Rattle.sv_model.specs.Ranges.{reach_of}
-use Rattle.sv_dir.specs.Files.{Files}
+use Rattle.sv_model.specs.Files.{Files}
 use Rattle.sv_script.specs.declared.Command.TheVariants as command
 use Rattle.sv_script.specs.declared.Reply.TheVariants as reply
 use Rattle.sv_script.specs.Answered.{Answered, handle_of, seen, flushed, fault_by}

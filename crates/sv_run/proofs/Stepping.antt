@@ -17,7 +17,7 @@ use Rattle.sv_model.specs.Reads.{IsWrite, Serves, IsOutput}
 use Rattle.sv_model.specs.Refusals.{first_due, key_fault, value_fault}
 use Rattle.sv_model.proofs.Refusing.{none_due}
 use Rattle.sv_model.proofs.Registers.{entry-new}
-use Rattle.sv_dir.specs.Files.{Files}
+use Rattle.sv_model.specs.Files.{Files}
 use Rattle.sv_script.specs.declared.Command.TheVariants as command
 use Rattle.sv_script.specs.declared.Reply.TheVariants as reply
 use Rattle.sv_script.specs.Answered.{Answered, handle_of}

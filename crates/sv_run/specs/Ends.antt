@@ -8,7 +8,7 @@ use Rattle.sv_model.specs.Faults.{Rose, RoseBy}
 use Rattle.sv_model.specs.Journal.{change_of}
 use Rattle.sv_model.specs.Summaries.{summary_of, obsolete_of}
 use Rattle.sv_model.specs.Books.{Books}
-use Rattle.sv_dir.specs.Files.{Files}
+use Rattle.sv_model.specs.Files.{Files}
 use Rattle.sv_dir.specs.TableNames.{number_named}
 use Rattle.sv_script.specs.declared.BadLine.{BadLine}
 use Rattle.sv_script.specs.declared.Script.{Script}

@@ -1,7 +1,7 @@
 -- The store beside its directory, and what always holds of the two as long as the store is open.
 use Rattle.std.specs.Prelude.{◌≡◌, ℕ, Option, Some, All}
 use Rattle.sv_model.specs.Books.{Books}
-use Rattle.sv_dir.specs.Files.{Files}
+use Rattle.sv_model.specs.Files.{Files}
 use Rattle.sv_plain.specs.Held.{Both, Holds, OthersStay}
 use Rattle.sv_plain.specs.Store.{IsNumberedFrom, IsOpen}
 

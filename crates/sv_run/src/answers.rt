@@ -1,7 +1,7 @@
 // The answer of the one lane to a command.
 ghost use Rattle.std.specs.Prelude.{◌≡◌, ℕ, Option, ◌∷◌, [], IfOk, length};
 ghost use Rattle.sv_model.specs.Refusals.{Refuses, RefusesExactly, first_due, key_fault};
-ghost use Rattle.sv_dir.specs.Files.{Files};
+ghost use Rattle.sv_model.specs.Files.{Files};
 ghost use Rattle.sv_script.specs.Answered.{handle_of};
 ghost use Rattle.sv_script.specs.Built.{IsBuilt};
 ghost use Rattle.sv_script.specs.ReplyLaw.{due, handle_fault};

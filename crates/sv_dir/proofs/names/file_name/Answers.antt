@@ -1,5 +1,6 @@
 use Rattle.std.proofs.Common.{◌≡◌, ◌<◌, ◌^◌, ◌++◌, length, length-append, ap, ◌∙◌, arith}
-use Rattle.sv_dir.specs.TableNames.{padded, suffix, file_name, number_named}
+use Rattle.sv_model.specs.Files.{padded, suffix, file_name}
+use Rattle.sv_dir.specs.TableNames.{number_named}
 use Rattle.sv_dir.proofs.ReadBack.{length-padded-le, number_named-file_name, file_name-injective}
 use Rattle.sv_dir.proofs.names.file_name.Goals as goal
 

@@ -8,7 +8,7 @@ use Rattle.sv_model.specs.declared.FileMeta.{FileMeta}
 use Rattle.sv_model.specs.Journal.{newest_op, value_of}
 use Rattle.sv_model.specs.Flat.{range_of}
 use Rattle.sv_model.specs.Ranges.{FilesJoin, reach_of}
-use Rattle.sv_dir.specs.Files.{Files}
+use Rattle.sv_model.specs.Files.{Files}
 use Rattle.sv_plain.specs.Lookups.{HoldEach}
 use Rattle.sv_plain.proofs.FileRanges.{held_up, none_yet, one_more, found_here, fault_in}
 use Rattle.sv_plain.proofs.tables.find_in_files.Goals as goal

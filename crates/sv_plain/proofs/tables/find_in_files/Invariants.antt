@@ -4,7 +4,7 @@ use Rattle.sv_model.specs.declared.Write.{Write}
 use Rattle.sv_model.specs.Flat.{range_of}
 use Rattle.sv_model.specs.Journal.{newest_op}
 use Rattle.sv_model.specs.Ranges.{FilesJoin, reach_of}
-use Rattle.sv_dir.specs.Files.{Files}
+use Rattle.sv_model.specs.Files.{Files}
 use Rattle.sv_plain.specs.Lookups.{HoldEach}
 use Rattle.sv_plain.proofs.tables.find_in_files.Given as goal
 

@@ -1,5 +1,5 @@
 use Rattle.std.proofs.Common.{◌≡◌, sym, ◌∙◌, rules}
-use Rattle.sv_dir.specs.TableNames.{file_name as name_of}
+use Rattle.sv_model.specs.Files.{file_name as name_of}
 use Rattle.sv_dir.proofs.Held.{finds_bytes, finds_none}
 use Rattle.sv_dir.proofs.memory.MemDir.find.Goals as goal
 

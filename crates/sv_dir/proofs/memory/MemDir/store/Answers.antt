@@ -1,6 +1,5 @@
 use Rattle.std.proofs.Common.{◌≡◌, Some, string_bytes, ap, ◌∙◌, rules}
-use Rattle.sv_dir.specs.TableNames.{file_name as name_of}
-use Rattle.sv_dir.specs.Files.{with_file}
+use Rattle.sv_model.specs.Files.{file_name as name_of, with_file}
 use Rattle.sv_dir.specs.MemDir.{held}
 use Rattle.sv_dir.proofs.Held.{held_after}
 use Rattle.sv_dir.proofs.memory.MemDir.store.Goals as goal

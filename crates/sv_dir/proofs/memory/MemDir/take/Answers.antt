@@ -1,5 +1,5 @@
 use Rattle.std.proofs.Common.{None, sym, ◌∙◌}
-use Rattle.sv_dir.specs.TableNames.{file_name as name_of}
+use Rattle.sv_model.specs.Files.{file_name as name_of}
 use Rattle.sv_dir.proofs.Held.{held_after, removal_removed, removal_absent}
 use Rattle.sv_dir.proofs.memory.MemDir.take.Goals as goal
 

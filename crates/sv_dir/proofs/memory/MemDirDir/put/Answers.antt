@@ -1,6 +1,5 @@
 use Rattle.std.proofs.Common.{◌≡◌, Some, ap, ◌∙◌, rules}
-use Rattle.sv_dir.specs.TableNames.{file_name}
-use Rattle.sv_dir.specs.Files.{file_of, with_file}
+use Rattle.sv_model.specs.Files.{file_name, file_of, with_file}
 use Rattle.sv_dir.specs.Fails.{half_of}
 use Rattle.sv_dir.specs.MemDir.{mem_files}
 use Rattle.sv_dir.proofs.Held.{with_file-same}

@@ -1,6 +1,6 @@
 -- The numbers and the files after a flush, over the store's books.
 use Rattle.std.proofs.Common.{ℕ, subst}
-use Rattle.sv_dir.specs.Files.{Files}
+use Rattle.sv_model.specs.Files.{Files}
 use Rattle.sv_model.specs.Books.{Books}
 use Rattle.sv_plain.specs.Held.{Both, Holds}
 use Rattle.sv_plain.specs.Store.{IsNumberedFrom}
