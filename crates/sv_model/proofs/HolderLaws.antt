@@ -166,15 +166,14 @@ module _ {A : Type 0} (numbers : A → List ℕ) (live : A → Bool) (sound : A 
     few = let a = length-change l k y in let b = so.few in omega arith;
   })
 
-  pub let_go : (goes : A → A → Type 0) (l self now : List A) (counts new : Counts) (k : ℕ) (x y : A) (given : List ℕ) → l ≡ self → now ≡ change l k y → AreCounted numbers live sound now new → entry l k ≡ Some x → goes x y → IsChosen (λ n. count_of new n ≡ 0) (numbers x) given → IsLetGo numbers live goes self k now given
-  let_go goes l self now counts new k x y given same now_is so at ended chosen = record {
-    it = x;
-    left = y;
-    at = ap (λ z. entry z k) (sym same) ∙ at;
-    ended = ended;
-    gone = now_is ∙ ap (λ z. change z k y) same;
-    unnamed = chosen_unnamed now new (numbers x) given so chosen;
-  }
+  pub let_go : (ends : A → A) (l self now : List A) (new : Counts) (k : ℕ) (x : A) (given : List ℕ) → l ≡ self → now ≡ change l k (ends x) → AreCounted numbers live sound now new → entry l k ≡ Some x → IsChosen (λ n. count_of new n ≡ 0) (numbers x) given → IsLetGo numbers live ends self k now given
+  let_go ends l self now new k x given same now_is so at chosen =
+      let at_self : entry self k ≡ Some x = ap (λ z. entry z k) (sym same) ∙ at in
+      let unnamed = chosen_unnamed now new (numbers x) given so chosen in
+      record {
+        gone = λ y there. (let e : x ≡ y = same_Some x y (sym at_self ∙ there) in now_is ∙ ap (λ z. change z k (ends x)) same ∙ ap (λ z. change self k (ends z)) e);
+        given = λ y there. (let e : x ≡ y = same_Some x y (sym at_self ∙ there) in subst (λ z. IsChosen (λ n. Has (Holds numbers live n) now → ⊥) (numbers z) given) e unnamed);
+      }
 
   -- the last record is taken back
   pub counted-back : (l rest : List A) (counts new : Counts) (x : A) → l ≡ rest ++ x ∷ [] → AreCounted numbers live sound l counts → live x ≡ true → ((n : ℕ) → count_of counts n ≡ count_of new n + times n (numbers x)) → AreCounted numbers live sound rest new

@@ -3,7 +3,7 @@ use Rattle.std.specs.Prelude.{◌≡◌, ◌+◌, ◌≤◌, ◌++◌, ◌∷◌
 use Rattle.sv_model.specs.declared.counts.Counts.{Counts}
 use Rattle.sv_model.specs.Counts.{count_of}
 use Rattle.sv_model.specs.Lists.{In, IsChosen, total, times}
-use Rattle.sv_model.specs.Registers.{entry, change, Has}
+use Rattle.sv_model.specs.Registers.{entry, change, Has, EachEntry}
 
 -- the holder is Live and names the object with this number
 pub record Holds {A : Type 0} (numbers : A → List ℕ) (live : A → Bool) (n : ℕ) (x : A) : Type 0 where
@@ -17,14 +17,10 @@ namings numbers live n x = cond (live x) (times n (numbers x)) 0
 -- The counts are those of the register's holders, each of which is sound.
 pub record AreCounted {A : Type 0} (numbers : A → List ℕ) (live : A → Bool) (sound : A → Type 0) (register : List A) (counts : Counts) : Type 0 where
   pub counted : (n : ℕ) → count_of counts n ≡ total (namings numbers live n) register
-  pub each : (n : ℕ) (x : A) → entry register n ≡ Some x → sound x
+  pub each : EachEntry (λ n x. sound x) register
   pub few : length register ≤ 4294967295
 
--- The holder is Gone. Given are the numbers that it named and no other holder names, in its order, each once.
-pub record IsLetGo {A : Type 0} (numbers : A → List ℕ) (live : A → Bool) (goes : A → A → Type 0) (old : List A) (id : ℕ) (new : List A) (given : List ℕ) : Type 0 where
-  pub it : A
-  pub left : A
-  pub at : entry old id ≡ Some it
-  pub ended : goes it left
-  pub gone : new ≡ change old id left
-  pub unnamed : IsChosen (λ n. Has (Holds numbers live n) new → ⊥) (numbers it) given
+-- The holder is Gone. Given are the numbers that it named and no other Live holder names, in its order, each once.
+pub record IsLetGo {A : Type 0} (numbers : A → List ℕ) (live : A → Bool) (ends : A → A) (old : List A) (id : ℕ) (new : List A) (answer : List ℕ) : Type 0 where
+  pub gone : (x : A) → entry old id ≡ Some x → new ≡ change old id (ends x)
+  pub given : (x : A) → entry old id ≡ Some x → IsChosen (λ n. Has (Holds numbers live n) new → ⊥) (numbers x) answer

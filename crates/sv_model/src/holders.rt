@@ -27,8 +27,8 @@ pub trait Holder: Drop {
     /// What holds of each holder of its kind.
     ghost sound: { Self → Type 0 };
 
-    /// What it is once it ended, Gone with the same numbers.
-    ghost ended: { Self → Self → Type 0 };
+    /// What it is once it ended: Gone, with the same numbers.
+    ghost gone: { Self → Self };
 
     ghost handed: { Self.Freed → List ℕ };
 
@@ -48,7 +48,7 @@ pub trait Holder: Drop {
     fn end(&mut self) -> Self::Freed
         requires live { lives self.old ≡ true }
         requires sound { sound self.old }
-        ensures ended { ended self.old self.new }
+        ensures gone { self.new ≡ gone self.old }
         ensures empty { handed result ≡ [] }
         ensures enough { length (numbers self.old) ≤ room result };
 
@@ -62,7 +62,7 @@ pub trait Holder: Drop {
     /// So few that the count of an object stays far below 2^64.
     ghost seldom: { (x : Self) (n : ℕ) → sound x → times n (numbers x) ≤ 64 };
 
-    ghost ended_is: { (x y : Self) → ended x y → sound x → (numbers y ≡ numbers x) × (lives y ≡ false) × sound y };
+    ghost gone_is: { (x : Self) → sound x → (numbers (gone x) ≡ numbers x) × (lives (gone x) ≡ false) × sound (gone x) };
 }
 
 /// The holders ever made, by their ids from 1. Contracts see the list of their records.
@@ -131,7 +131,7 @@ impl<T: Holder> HolderRegister<T> {
     /// once. Takes no memory.
     pub fn release(&mut self, id: u32) -> T::Freed
         requires { IsLiveEntry T.lives self.old id }
-        ensures { IsLetGo T.numbers T.lives T.ended self.old id self.new (T.handed result) }
+        ensures { IsLetGo T.numbers T.lives T.gone self.old id self.new (T.handed result) }
     {
         let record = &mut self.records[id as usize - 1];
         let freed = record.end();
