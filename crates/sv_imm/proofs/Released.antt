@@ -10,10 +10,10 @@ use Rattle.sv_imm.specs.Changes.{gone_list, IsReleased}
 
 -- what holds a memtable is a list that has it as a member
 has_held : (m : ℕ) (lists : List MemtableList) → Has (Holds (λ l. l.members) (λ l. l.live) m) lists → Has (HasMember m) lists
-has_held m lists h = (h.0, h.1, h.2, record { live = h.3.is_live; has = h.3.has })
+has_held m lists h = (h.0, h.1, h.2, record { live = h.3.live; has = h.3.has })
 
 held_has : (m : ℕ) (lists : List MemtableList) → Has (HasMember m) lists → Has (Holds (λ l. l.members) (λ l. l.live) m) lists
-held_has m lists h = (h.0, h.1, h.2, record { is_live = h.3.live; has = h.3.has })
+held_has m lists h = (h.0, h.1, h.2, record { live = h.3.live; has = h.3.has })
 
 pub released : (old self new : List MemtableList) (n id : ℕ) (answer : List ℕ) → old ≡ self → n ≡ id → IsLetGo (λ l. l.members) (λ l. l.live) gone_list old n new answer → IsReleased self id new answer
 released old self new n id answer same n_is h =

@@ -35,12 +35,12 @@ module _ {A : Type 0} (numbers : A → List ℕ) (live : A → Bool) where
 
   named_holds : (n : ℕ) (x : A) → 0 < namings numbers live n x → Holds numbers live n x
   named_holds n x more = elim (live_or (live x)) [
-    | inl is ↦ let a = namings_live n x is in record { is_live = is; has = in_times n (numbers x) (omega arith) }
+    | inl is ↦ let a = namings_live n x is in record { live = is; has = in_times n (numbers x) (omega arith) }
     | inr gone ↦ let a = namings_gone n x gone in absurd (omega arith)
   ]
 
   holds_named : (n : ℕ) (x : A) → Holds numbers live n x → 0 < namings numbers live n x
-  holds_named n x h = let a = namings_live n x h.is_live in let b = times_in n (numbers x) h.has in omega arith
+  holds_named n x h = let a = namings_live n x h.live in let b = times_in n (numbers x) h.has in omega arith
 
   all-le : (n : ℕ) (l : List A) → ((k : ℕ) (x : A) → entry l k ≡ Some x → times n (numbers x) ≤ 64) → total (namings numbers live n) l ≤ length l * 64
   all-le n [] seldom = omega arith
@@ -63,7 +63,7 @@ module _ {A : Type 0} (live : A → Bool) where
       let within = entry_le l n there.it at_it in
       let at = entry-code l n (n - 1) x (omega arith) (omega arith) read in
       let e : there.it ≡ x = same_Some there.it x (sym at_it ∙ at) in
-      (at, sym (ap live e) ∙ there.is_live)
+      (at, sym (ap live e) ∙ there.live)
 
   -- the last one
   pub found_last : (l self rest : List A) (x : A) → l ≡ self → l ≡ rest ++ x ∷ [] → IsLiveEntry live self (length self) → (entry l (length l) ≡ Some x) × (live x ≡ true)
@@ -72,7 +72,7 @@ module _ {A : Type 0} (live : A → Bool) where
       let at : entry l (length l) ≡ Some x = subst (λ all. entry all (length l) ≡ Some x) (sym split) (entry-new rest x (length l) n) in
       let at_it : entry l (length l) ≡ Some there.it = ap (λ z. entry z (length z)) same ∙ there.at in
       let e : there.it ≡ x = same_Some there.it x (sym at_it ∙ at) in
-      (at, sym (ap live e) ∙ there.is_live)
+      (at, sym (ap live e) ∙ there.live)
 
 pub written : {A : Type 0} (l : List A) (n : ℕ) (x y : A) → entry l n ≡ Some x → set l (n - 1) y ≡ change l n y
 written l n x y at = let within = entry_le l n x at in change-code l n (n - 1) y (omega arith)

@@ -4,6 +4,7 @@ pub mod HolderLaws
 pub mod Lists
 pub mod Lowering
 pub mod PlaceLaws
+pub mod PlacedLaws
 pub mod Ranges
 pub mod Refusing
 pub mod Registers

@@ -6,8 +6,8 @@ use Rattle.sv_model.specs.Lists.{In, IsChosen, total, times}
 use Rattle.sv_model.specs.Registers.{entry, change, Has, EachEntry}
 
 -- the holder is Live and names the object with this number
-pub record Holds {A : Type 0} (numbers : A → List ℕ) (live : A → Bool) (n : ℕ) (x : A) : Type 0 where
-  pub is_live : live x ≡ true
+pub record Holds {A : Type 0} (numbers : A → List ℕ) (lives : A → Bool) (n : ℕ) (x : A) : Type 0 where
+  pub live : lives x ≡ true
   pub has : In n (numbers x)
 
 -- how often a holder names the object with this number: not at all once it is Gone

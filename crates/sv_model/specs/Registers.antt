@@ -24,10 +24,10 @@ abbrev pub GoesOn : {A : Type 0} → (A → A → Type 0) → List A → List A 
 GoesOn {A} R a b = (n : ℕ) (x : A) → entry a n ≡ Some x → (y : A) × (entry b n ≡ Some y) × R x y
 
 -- object number n of the register is Live
-pub record IsLiveEntry {A : Type 0} (live : A → Bool) (register : List A) (n : ℕ) : Type 0 where
+pub record IsLiveEntry {A : Type 0} (lives : A → Bool) (register : List A) (n : ℕ) : Type 0 where
   pub it : A
   pub at : entry register n ≡ Some it
-  pub is_live : live it ≡ true
+  pub live : lives it ≡ true
 
 -- One more record, under the next number.
 pub record IsAdded {A : Type 0} (old : List A) (x : A) (new : List A) (id : ℕ) : Type 0 where

@@ -9,7 +9,7 @@ mod ids;
 mod item_list;
 mod keys;
 mod names;
-mod places;
+mod placed;
 mod raising;
 mod records;
 mod refusals;
@@ -29,7 +29,7 @@ pub use ids::{FamilyId, FileNumber, ListId, MemId, Pack, SvSerial, VersionId};
 pub use item_list::Items;
 pub use keys::{GREATEST_KEY, Key};
 pub use names::{GREATEST_NAME, Name};
-pub use places::least_free;
+pub use placed::{MAX_PLACED, Placed, PlacedRegister};
 pub use records::{
     Descriptor, Family, FileMeta, FileStatus, Memtable, MemtableList, RegisteredFile, Snapshot,
     SuperVersion, Top, Version,

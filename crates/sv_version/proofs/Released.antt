@@ -9,10 +9,10 @@ use Rattle.sv_version.specs.Changes.{gone_version, IsReleased}
 
 -- what holds a number is a Version that has a file of that number
 has_held : (n : ℕ) (versions : List Version) → Has (Holds (λ v. numbers_of v.files) (λ v. v.live) n) versions → Has (HasFile n) versions
-has_held n versions h = (h.0, h.1, h.2, record { live = h.3.is_live; has = h.3.has })
+has_held n versions h = (h.0, h.1, h.2, record { live = h.3.live; has = h.3.has })
 
 held_has : (n : ℕ) (versions : List Version) → Has (HasFile n) versions → Has (Holds (λ v. numbers_of v.files) (λ v. v.live) n) versions
-held_has n versions h = (h.0, h.1, h.2, record { is_live = h.3.live; has = h.3.has })
+held_has n versions h = (h.0, h.1, h.2, record { live = h.3.live; has = h.3.has })
 
 pub released : (old self new : List Version) (n id : ℕ) (answer : List ℕ) → old ≡ self → n ≡ id → IsLetGo (λ v. numbers_of v.files) (λ v. v.live) gone_version old n new answer → IsReleased self id new answer
 released old self new n id answer same n_is h =
