@@ -7,11 +7,13 @@ pub mod FlatLaws
 pub mod FlatRanges
 pub mod FlatReads
 pub mod Freed
+pub mod HolderLaws
 pub mod KeyOrder
 pub mod Lists
 pub mod Lowering
 pub mod NumberLaws
 pub mod PlaceLaws
+pub mod PlacedLaws
 pub mod Ranges
 pub mod Refusing
 pub mod Registers
