@@ -1,4 +1,4 @@
-mod Books
-mod KeptLemmas
-mod LawLemmas
-mod Search
+mod Answered
+mod Keeping
+mod Registered
+mod Rising

@@ -1,2 +1,3 @@
-pub mod Freezing
 pub mod Indexing
+pub mod NumberedRows
+pub mod PartedNumbers

@@ -5,7 +5,7 @@ use Rattle.std.proofs.lemmas.List.Elements.{All-append, filter-append}
 use Rattle.sv_model.specs.declared.Write.{Write}
 use Rattle.sv_model.specs.Journal.{borne_by, of_family, rows_of, row_of}
 use Rattle.sv_model.specs.Books.{Books}
-use Rattle.sv_memtable.specs.Cell.{Cell}
+use Rattle.sv_model.specs.Cells.{Cell}
 use Rattle.sv_plain.specs.declared.immutables.Immutable.{Immutable}
 use Rattle.sv_plain.specs.Stands.{IsOwn, Stands}
 use Rattle.sv_plain.specs.Store.{active_rows}

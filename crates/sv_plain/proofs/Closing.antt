@@ -20,7 +20,7 @@ use Rattle.sv_model.proofs.Registers.{entry_le}
 use Rattle.sv_model.specs.Files.{Files, file_of, file_name}
 use Rattle.sv_dir.specs.Files.{same_name}
 use Rattle.sv_dir.proofs.Laws.{same_name-file_name}
-use Rattle.sv_memtable.specs.Cell.{Cell}
+use Rattle.sv_model.specs.Cells.{Cell}
 use Rattle.sv_files.specs.Calls.{IsRegistered}
 use Rattle.sv_files.specs.Laws.{FileLaws}
 use Rattle.sv_plain.specs.declared.immutables.Immutable.{Immutable}

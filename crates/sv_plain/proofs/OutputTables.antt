@@ -12,7 +12,7 @@ use Rattle.sv_model.specs.Journal.{of_family, row_of}
 use Rattle.sv_model.specs.Flat.{range_of, is_delete, IsFlat}
 use Rattle.sv_model.specs.TableText.{HasText, IsWellFormed, table_text}
 use Rattle.sv_model.proofs.Flats.{flat_few, flat_some}
-use Rattle.sv_table.specs.declared.Table.{Table}
+use Rattle.sv_model.specs.declared.Table.{Table}
 use Rattle.sv_table.specs.Merging.{Joined, NoneBottom, AreWellFormed, AreFlats}
 use Rattle.sv_plain.specs.declared.immutables.Immutable.{Immutable}
 use Rattle.sv_plain.specs.declared.parts.Parts.{Parts}

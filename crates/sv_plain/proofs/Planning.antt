@@ -18,7 +18,7 @@ use Rattle.sv_model.specs.Ranges.{FilesJoin}
 use Rattle.sv_model.specs.Refusals.{first_due}
 use Rattle.sv_model.specs.Books.{Books}
 use Rattle.sv_model.proofs.Registers.{goes-same, goes-push}
-use Rattle.sv_memtable.specs.Cell.{Cell}
+use Rattle.sv_model.specs.Cells.{Cell}
 use Rattle.sv_cells.specs.Laws as cell_laws
 use Rattle.sv_registry.specs.Laws as laws
 use Rattle.sv_files.specs.Calls.{captured_for}

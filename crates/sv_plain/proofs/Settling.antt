@@ -14,7 +14,7 @@ use Rattle.sv_model.specs.Lists.{In}
 use Rattle.sv_model.specs.Named.{numbers_of}
 use Rattle.sv_model.specs.Registers.{entry, change, GoesOn}
 use Rattle.sv_model.proofs.Registers.{entry-old, entry-new, entry_push, goes-same, goes-change}
-use Rattle.sv_memtable.specs.Cell.{Cell}
+use Rattle.sv_model.specs.Cells.{Cell}
 use Rattle.sv_files.specs.Calls.{IsMarked, IsRegistered, IsSettled, captured_for, settled_status}
 use Rattle.sv_plain.specs.declared.immutables.Immutable.{Immutable}
 use Rattle.sv_plain.specs.declared.parts.Parts.{Parts}

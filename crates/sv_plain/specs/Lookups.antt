@@ -8,7 +8,7 @@ use Rattle.sv_model.specs.declared.Refusal.TheVariants as refusal
 use Rattle.sv_model.specs.Flat.{IsFlat}
 use Rattle.sv_model.specs.Lists.{In}
 use Rattle.sv_model.specs.Named.{numbers_of}
-use Rattle.sv_table.specs.declared.Table.{Table}
+use Rattle.sv_model.specs.declared.Table.{Table}
 use Rattle.sv_model.specs.Files.{Files, file_of}
 use Rattle.sv_plain.specs.Held.{IsFileText}
 

@@ -4,7 +4,7 @@ use Rattle.sv_model.specs.declared.Memtable.{Memtable}
 use Rattle.sv_model.specs.declared.FileMeta.{FileMeta}
 use Rattle.sv_model.specs.declared.Refusal.{Refusal}
 use Rattle.sv_model.specs.declared.Refusal.TheVariants as refusal
-use Rattle.sv_table.specs.declared.Table.{Table}
+use Rattle.sv_model.specs.declared.Table.{Table}
 use Rattle.sv_plain.specs.declared.immutables.Immutable.{Immutable}
 use Rattle.sv_plain.specs.declared.parts.Parts.{Parts}
 use Rattle.sv_plain.specs.Immutables.{ImmutablesJoin}

@@ -13,7 +13,7 @@ use Rattle.sv_model.specs.Places.{live_count}
 use Rattle.sv_model.specs.Ranges.{FilesJoin}
 use Rattle.sv_model.specs.Registers.{entry}
 use Rattle.sv_model.specs.Books.{Books}
-use Rattle.sv_memtable.specs.Cell.{Cell}
+use Rattle.sv_model.specs.Cells.{Cell}
 use Rattle.sv_cells.specs.Laws as cells
 use Rattle.sv_files.specs.Calls.{IsRegistered}
 use Rattle.sv_plain.specs.declared.immutables.Immutable.{Immutable}

@@ -1,0 +1,11 @@
+pub mod Captures
+pub mod Cleaning
+pub mod Currents
+pub mod Families
+pub mod Growing
+pub mod Installs
+pub mod Midst
+pub mod Purges
+pub mod Settling
+pub mod Snapping
+pub mod Writes

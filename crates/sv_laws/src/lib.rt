@@ -1,0 +1,3 @@
+//! The laws of the state, over its books alone: what each change of them keeps, and what sound books say. Their words
+//! are in `specs/`, the laws in `proofs/`; there is no code.
+#![tactic(auto)]
