@@ -5,6 +5,7 @@ pub mod FlatKeys
 pub mod FlatLaws
 pub mod FlatRanges
 pub mod FlatReads
+pub mod FlatText
 pub mod Freed
 pub mod KeyOrder
 pub mod Lists
