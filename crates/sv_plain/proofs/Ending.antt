@@ -9,7 +9,6 @@ use Rattle.sv_model.specs.Registers.{entry, change, GoesOn}
 use Rattle.sv_model.proofs.Lists.{times_in, in_times}
 use Rattle.sv_model.proofs.Registers.{entry-old, entry-new, entry_push, entry-same, entry-else, entry_le, length-change, total-change}
 use Rattle.sv_cells.specs.Calls.{IsEnded, IsLiveMemtable}
-use Rattle.sv_cells.specs.Laws.{is_live}
 use Rattle.sv_plain.specs.Ended.{AreEnded}
 use Rattle.sv_plain.proofs.Going.{memtable_itself}
 

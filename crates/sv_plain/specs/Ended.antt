@@ -4,7 +4,6 @@ use Rattle.sv_model.specs.declared.Memtable.{Memtable}
 use Rattle.sv_model.specs.Lists.{In}
 use Rattle.sv_model.specs.Places.{live_count}
 use Rattle.sv_model.specs.Registers.{entry}
-use Rattle.sv_cells.specs.Laws.{is_live}
 
 -- Each of these is Gone, and the others are as they were.
 pub record AreEnded (old : List Memtable) (ids : List ℕ) (new : List Memtable) : Type 0 where

@@ -9,12 +9,11 @@ use Rattle.sv_model.specs.declared.FileStatus.TheVariants.{Live, Obsolete}
 use Rattle.sv_model.specs.Journal.{borne_by, rows_of}
 use Rattle.sv_model.specs.Lists.{In}
 use Rattle.sv_model.specs.Named.{numbers_of}
-use Rattle.sv_model.specs.Places.{live_count}
+use Rattle.sv_model.specs.Places.{live_count, memtable_live}
 use Rattle.sv_model.specs.Ranges.{FilesJoin}
 use Rattle.sv_model.specs.Registers.{entry}
 use Rattle.sv_model.specs.Books.{Books}
 use Rattle.sv_model.specs.Cells.{Cell}
-use Rattle.sv_cells.specs.Laws as cells
 use Rattle.sv_model.specs.Numbers.{IsRegistered}
 use Rattle.sv_plain.specs.declared.immutables.Immutable.{Immutable}
 use Rattle.sv_plain.specs.Immutables.{ImmutablesJoin}
@@ -83,7 +82,7 @@ pub record Stands (b : Books) (reach base serial place list version : ℕ) (acti
   pub older : All (λ m. m < length b.memtables) lists.last.members
   pub short : length immutables < 64
   pub lives : (m : ℕ) (x : Memtable) → entry b.memtables m ≡ Some x → x.live ≡ true → In m lists.last.members ⊎ (m ≡ length b.memtables)
-  pub counted : live_count cells.is_live b.memtables ≡ length immutables + 1
+  pub counted : live_count memtable_live b.memtables ≡ length immutables + 1
   pub files : FilesStand b store.versions.last.files reach
   pub idle : b.files.captured ≡ replicate 16 None
   pub few_memtables : length b.memtables ≤ length b.supers

@@ -4,7 +4,7 @@ ghost use Rattle.sv_model.specs.declared.FileStatus.TheVariants.{Live, Obsolete}
 ghost use Rattle.sv_plain.specs.Follows.{Follows};
 ghost use Rattle.sv_model.specs.Faults.{RoseBy};
 ghost use Rattle.sv_model.specs.Refusals.{Refuses};
-ghost use Rattle.sv_registry.specs.Calls.{make_fault};
+ghost use Rattle.sv_registry.specs.Calls.{make_refusal};
 ghost use Rattle.sv_plain.specs.Due.{FlushMoment, fault_of, flush_fault};
 ghost use Rattle.sv_plain.specs.Flushing.{IsFinished, IsNumbered, LeftAs, Outputs, SettlesAs};
 ghost use Rattle.sv_model.specs.HeldFiles.{OthersStay};
@@ -56,7 +56,7 @@ impl Parts {
     /// memtables. Refused as `RegisterFull` or `TooManyLive`, and then the number is Obsolete and the memtables stay.
     pub fn finish_output(&mut self, file: &FileMeta) -> Result<(), Refusal>
         requires { Outputs self.old file.now }
-        ensures refused { Refuses (make_fault self.old.registry) result }
+        ensures refused { Refuses (make_refusal self.old.registry) result }
         ensures runs { Runs self.new }
         ensures journal { self.new.journal ≡ self.old.journal }
         ensures metas { self.new.metas ≡ self.old.metas }

@@ -3,9 +3,9 @@ ghost use Rattle.std.specs.Prelude.{◌≡◌, ◌+◌, ◌<◌, ◌^◌, ◌∷
 ghost use Rattle.sv_model.specs.declared.Refusal.TheVariants.{RegisterFull};
 ghost use Rattle.sv_plain.specs.Follows.{Follows};
 ghost use Rattle.sv_model.specs.Refusals.{RefusesExactly, first_due};
-ghost use Rattle.sv_cells.specs.Calls.{memtables_fault};
+ghost use Rattle.sv_cells.specs.Calls.{memtables_refusal};
 ghost use Rattle.sv_files.specs.Calls.{capture_fault};
-ghost use Rattle.sv_registry.specs.Calls.{make_fault};
+ghost use Rattle.sv_registry.specs.Calls.{make_refusal};
 ghost use Rattle.sv_plain.specs.Due.{FlushMoment, all_live_fault, all_made_fault, fault_of, flush_fault, has_rows, nothing_fault, only_if};
 ghost use Rattle.sv_plain.specs.Prepared.{Began, IsMemory, Prepared};
 ghost use Rattle.sv_plain.specs.Settled.{IsStopped};
@@ -40,7 +40,7 @@ impl Parts {
     // Tests what the switch of a flush may meet.
     fn plan_switch(&self) -> Result<(), Refusal>
         ensures faultless { fault_of result ≡ 0 }
-        ensures refused { RefusesExactly (first_due (all_made_fault (books_of self.now) ∷ memtables_fault self.now.memtables ∷ all_live_fault (books_of self.now) ∷ [])) result }
+        ensures refused { RefusesExactly (first_due (all_made_fault (books_of self.now) ∷ memtables_refusal self.now.memtables ∷ all_live_fault (books_of self.now) ∷ [])) result }
     {
         if self.all_made() {
             return Err(Refusal::RegisterFull);
