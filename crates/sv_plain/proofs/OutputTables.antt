@@ -31,7 +31,7 @@ use Rattle.sv_plain.proofs.Looking.{all_own, range_none, ranges_join}
 pub range_count : (journal : List Write) (family from to : ℕ) → to ≤ length (of_family family journal) → length (range_of journal family from to) ≡ to - from
 range_count journal family from to fits =
     let ws = of_family family journal in
-    length-map row_of (drop from (take to ws)) ∙ length-drop from (take to ws) ∙ ap (λ (n : ℕ). n - from) (length-take-le to ws fits)
+    length-map (drop from (take to ws)) row_of ∙ length-drop from (take to ws) ∙ ap (λ (n : ℕ). n - from) (length-take-le to ws fits)
 
 numbered-append : (before : ℕ) (xs ys : List Row) → numbered_after before (xs ++ ys) ≡ numbered_after before xs ++ numbered_after (before + length xs) ys
 numbered-append before [] ys = ap (λ n. numbered_after n ys) (let e : before ≡ before + 0 = omega arith in e)
@@ -102,3 +102,4 @@ text_of journal file t bytes within from to bottom flat table is =
 
 pub both_ok : {T E : Type 0} (P Q R : T → Type 0) (r : Result T E) → IfOk r P → IfOk r Q → ((x : T) → P x → Q x → R x) → IfOk r R
 both_ok P Q R (Ok x) p q f = f x p q
+both_ok P Q R (Err e) p q f = tt

@@ -7,7 +7,7 @@ use Rattle.sv_model.specs.Moments.{WasStalled, WasFlushed, WereManyMemtables, We
 use Rattle.sv_model.specs.Ranges.{reach_of}
 use Rattle.sv_model.specs.Books.{Books}
 use Rattle.sv_cells.specs.Calls.{memtables_refusal}
-use Rattle.sv_registry.specs.Calls.{full_fault, make_refusal}
+use Rattle.sv_registry.specs.Calls.{full_refusal, make_refusal}
 use Rattle.sv_files.specs.Calls.{capture_fault}
 use Rattle.sv_plain.specs.Store.{active_rows, immutable_count, last_files, write_count}
 
@@ -58,7 +58,7 @@ abbrev pub all_made_fault : Books → Option Refusal
 all_made_fault b = cond (nat_le 1048576 (length b.supers)) (Some refusal.RegisterFull) None
 
 abbrev pub all_live_fault : Books → Option Refusal
-all_live_fault b = full_fault b.supers
+all_live_fault b = full_refusal b.supers
 
 -- a flush switches first where the active memtable has a row
 abbrev pub has_rows : Books → Bool

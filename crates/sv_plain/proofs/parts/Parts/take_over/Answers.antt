@@ -9,6 +9,7 @@ use Rattle.sv_plain.specs.Ended.{AreEnded}
 use Rattle.sv_plain.specs.Stands.{Stands}
 use Rattle.sv_plain.specs.Taken.{IsTaking}
 use Rattle.sv_plain.proofs.LiveNumbers.{pends}
+use Rattle.sv_plain.proofs.Settling.{settled_as}
 use Rattle.sv_plain.proofs.Taking.{Steps, books_after, given_live, list_lives, list_still, pack_lives, version_lives}
 use Rattle.sv_plain.proofs.TakenOver.{stands_after}
 use Rattle.sv_plain.proofs.TakenGoes.{files_more, goes, none_wait, rows_same, settles_as}
@@ -43,7 +44,7 @@ steps c t = record {
   freed = c.reclaim.result;
   given = c.release-flushed.result.items;
   gone = c.release.result.items;
-  reclaimed = c.reclaim.ensures;
+  reclaimed = c.reclaim.ensures.reclaimed;
   released = c.release-flushed.ensures;
   ended = subst (λ (l : List ℕ). AreEnded c.args.self.now.memtables l c.end_members.new.memtables) c.as_slice.ensures.value c.end_members.ensures;
   dropped = c.release.ensures;
