@@ -1,5 +1,5 @@
 -- What the files of the directory hold after one of them was written, or may have been.
-use Rattle.std.proofs.Common.{◌≡◌, ◌==◌, ◌<◌, ◌≤◌, ◌^◌, ◌⊎◌, inl, inr, ℕ, zero, suc, Bool, true, false, cond, List, [], ◌∷◌, ◌++◌, Option, Some, None, length, slice_get, refl, sym, ◌∙◌, ap, subst, arith, eq-eqb}
+use Rattle.std.proofs.Common.{◌≡◌, ◌==◌, ◌<◌, ◌≤◌, ◌^◌, ◌⊎◌, inl, inr, ℕ, zero, suc, Bool, true, false, cond, List, [], ◌∷◌, ◌++◌, Option, Some, None, length, slice_get, refl, sym, ◌∙◌, ap, subst, arith, eq-eqb, length-append}
 use Rattle.std.specs.Prelude.{IsSomeAnd, option_map}
 use Rattle.std.specs.Str.{bytes_eq}
 use Rattle.std.specs.Cmp.Lexicographic.{nat_list_cmp_total}
@@ -19,10 +19,13 @@ use Rattle.sv_model.proofs.Registers.{entry_push}
 use Rattle.sv_model.specs.Files.{Files, file_of, with_file, file_name}
 use Rattle.sv_dir.specs.Files.{LeavesAny, PutsFile, same_name}
 use Rattle.sv_dir.proofs.Laws.{file_of-with_file}
+use Rattle.std.proofs.lemmas.List.Elements.{filter-append}
+use Rattle.sv_model.specs.declared.Row.{Row}
+use Rattle.sv_model.specs.Flat.{IsFlatOf}
 use Rattle.sv_model.specs.HeldFiles.{IsFileText, OthersStay}
 use Rattle.sv_plain.specs.Held.{Both, Holds}
 use Rattle.sv_plain.specs.Store.{last_files, top_of}
-use Rattle.sv_plain.proofs.Joining.{flat-more}
+use Rattle.sv_plain.proofs.Joining.{range-more}
 
 -- ---- the files before and after
 both_itself : (R : Files → Files → Type 0) → ((x : Files) → R x x) → (o : Option Files) → Both R o o

@@ -1,6 +1,6 @@
 -- One removal after the other.
 use Rattle.std.specs.Prelude.{OnOk, OnErr, Result, Ok, Err}
-use Rattle.std.proofs.Common.{◌≡◌, ◌≤◌, ◌+◌, ℕ, Option, Some, None, sym, subst, arith}
+use Rattle.std.proofs.Common.{◌≡◌, ◌≤◌, ◌+◌, ℕ, List, ◌∷◌, Option, Some, None, sym, subst, arith}
 use Rattle.sv_model.specs.declared.End.{End}
 use Rattle.sv_model.specs.declared.End.TheVariants as end
 use Rattle.sv_model.specs.declared.FileStatus.TheVariants.{Obsolete, Gone}

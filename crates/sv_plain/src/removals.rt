@@ -27,7 +27,8 @@ fn remove_file<D: Dir>(
     ensures cause { HasCauseOf Failed (D.faults dir.old) (D.faults dir.new) result }
 {
     files.laws();
-    if !files.take(number) {
+    let taken = files.take(number);
+    if !taken {
         unreachable!();
     }
     match dir.remove(number) {

@@ -1,5 +1,5 @@
 -- What was before is still there, and ends; the file is Live.
-use Rattle.std.proofs.Common.{◌+◌, ℕ, List, length, refl, sym, subst}
+use Rattle.std.proofs.Common.{◌+◌, ℕ, true, List, length, refl, sym, subst}
 use Rattle.sv_model.specs.declared.FileStatus.TheVariants.{Pending}
 use Rattle.sv_model.specs.Books.{FileRegister}
 use Rattle.sv_model.specs.Lists.{In, Distinct}
