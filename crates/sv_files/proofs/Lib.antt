@@ -1,4 +1,9 @@
-mod Books
-mod KeptLemmas
-mod LawLemmas
-mod Search
+mod Answered
+mod BookLaws
+mod Choosing
+mod GrabLaws
+mod Keeping
+mod NumbersLaws
+mod Registered
+mod Rising
+mod StrayLaws

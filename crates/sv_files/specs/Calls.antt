@@ -1,68 +1,118 @@
 -- What the calls of a book of file numbers give and leave.
-use Rattle.std.specs.Prelude.{◌≡◌, ◌+◌, ◌≤◌, ◌==◌, ◌||◌, ℕ, Bool, true, false, cond, nat_le, min, List, [], ◌∷◌, ◌++◌, Option, Some, None, slice_get, slice_set}
+use Rattle.std.specs.Prelude.{◌≡◌, ◌+◌, ◌<◌, ◌≤◌, ◌==◌, ◌||◌, ◌++◌, ◌∷◌, ◌⊎◌, ℕ, Bool, if◌then◌else◌, nat_le, nat_lt, List, [], Option, Some, None, map, replicate, length, sum, slice_get, slice_set, slice_index}
+use Rattle.std.specs.List.{list_any}
 use Rattle.sv_model.specs.declared.records.RegisteredFile.{RegisteredFile}
 use Rattle.sv_model.specs.declared.records.FileStatus.{FileStatus}
-use Rattle.sv_model.specs.declared.records.FileStatus.TheVariants.{Pending, Live, Obsolete}
+use Rattle.sv_model.specs.declared.records.FileStatus.TheVariants as status
 use Rattle.sv_model.specs.declared.refusals.Refusal.{Refusal}
-use Rattle.sv_model.specs.declared.refusals.Refusal.TheVariants.{RegisterFull}
+use Rattle.sv_model.specs.declared.refusals.Refusal.TheVariants.{RegisterFull, Disabled, NoHold, TooManyHolds}
 use Rattle.sv_model.specs.Books.{FileRegister}
-use Rattle.sv_model.specs.Registers.{entry, change, Has}
-use Rattle.sv_files.specs.Laws.{captures}
+use Rattle.sv_model.specs.Lists.{Distinct, In, IsChosen}
+use Rattle.sv_model.specs.Numbers.{AreInOrder, IsMarked, IsReady, IsSettled, captures, least_captured, registered}
+use Rattle.sv_files.specs.declared.settled.Settled.{Settled}
+use Rattle.sv_files.specs.declared.settled.Settled.TheVariants as settled
 
--- the number is registered with this status
-pub record HasStatus (number : ℕ) (status : FileStatus) (f : RegisteredFile) : Type 0 where
-  pub number_is : f.number ≡ number
-  pub status_is : f.status ≡ status
+-- ---- making a book
 
-abbrev pub IsRegistered : List RegisteredFile → ℕ → FileStatus → Type 0
-IsRegistered numbers number status = Has (HasStatus number status) numbers
+-- a book of these numbers, with no capture, no hold and no job
+abbrev pub opened : ℕ → List RegisteredFile → FileRegister
+opened next numbers = record { numbers = numbers; captured = replicate 16 None; holds = replicate 32 0; jobs = 0; next = next }
+
+-- the family's number, which a Version names
+abbrev pub live_file : ℕ × ℕ → RegisteredFile
+live_file f = record { number = f.1; status = status.Live; family = Some f.0 }
+
+-- The numbers differ, and each is at least 1 and below the next one.
+pub record AreNamed (next : ℕ) (files : List (ℕ × ℕ)) : Type 0 where
+  pub few : length files ≤ 262144
+  pub apart : Distinct (map (λ (f : ℕ × ℕ). f.1) files)
+  pub within : (i : ℕ) (f : ℕ × ℕ) → slice_get files i ≡ Some f → (1 ≤ f.1) × (f.1 < next)
+
+-- ---- captures
 
 -- the refusal that a capture meets: 1,048,576 numbers were captured, or the next one is the greatest of all
 abbrev pub capture_fault : FileRegister → Option Refusal
 capture_fault r =
-    cond (nat_le 1048576 (captures r.numbers) || (r.next == 18446744073709551615)) (Some RegisterFull) None
+    if nat_le 1048576 (captures r.numbers) || (r.next == 18446744073709551615) then Some RegisterFull else None
 
 -- The next number is registered last as Pending, and is the family's captured number.
 abbrev pub captured_for : FileRegister → ℕ → FileRegister
 captured_for r family = record r {
-  numbers = r.numbers ++ record { number = r.next; status = Pending; family = Some family } ∷ [];
+  numbers = r.numbers ++ record { number = r.next; status = status.Pending; family = Some family } ∷ [];
   captured = slice_set r.captured family (Some r.next);
   next = r.next + 1;
 }
 
--- the least captured number, or the greatest number of all where none is captured
-abbrev pub least_captured : List (Option ℕ) → ℕ
-least_captured [] = 18446744073709551615
-least_captured (None ∷ captured) = least_captured captured
-least_captured (Some number ∷ captured) = min number (least_captured captured)
+abbrev pub settled_status : Settled → FileStatus
+settled_status settled.Live = status.Live
+settled_status settled.Obsolete = status.Obsolete
 
--- The number had one status and has another, and nothing else changed in the numbers.
-pub record IsMarked (number : ℕ) (was now : FileStatus) (old new : List RegisteredFile) : Type 0 where
-  pub at : ℕ
-  pub it : RegisteredFile
-  pub found : entry old at ≡ Some it
-  pub had : HasStatus number was it
-  pub marked : new ≡ change old at (record it { status = now })
-
--- The number's status is another, and nothing else of the register changed.
-pub record MarksOnly (number : ℕ) (was now : FileStatus) (old new : FileRegister) : Type 0 where
-  pub numbers : IsMarked number was now old.numbers new.numbers
-  pub rest : new ≡ record old { numbers = new.numbers }
-
-abbrev pub settled_status : Bool → FileStatus
-settled_status live = cond live Live Obsolete
-
--- The Pending number is Live or Obsolete, its family has no captured number, and nothing else changed.
-pub record IsSettled (number : ℕ) (live : Bool) (old new : FileRegister) : Type 0 where
+-- The number is settled for the one family that had it captured.
+pub record Settles (number : ℕ) (now : FileStatus) (old new : FileRegister) : Type 0 where
   pub family : ℕ
-  pub numbers : IsMarked number Pending (settled_status live) old.numbers new.numbers
-  pub of : numbers.it.family ≡ Some family
-  pub was : slice_get old.captured family ≡ Some (Some number)
-  pub rest : new ≡ record old { numbers = new.numbers; captured = slice_set old.captured family None }
+  pub only : (f : ℕ) → slice_get old.captured f ≡ Some (Some number) → f ≡ family
+  pub settled : IsSettled family number now old new
 
--- the least Obsolete number that is not below `from`
-abbrev pub IsLeastObsolete : List RegisteredFile → ℕ → Option ℕ → Type 0
-IsLeastObsolete numbers from None = (n : ℕ) → from ≤ n → IsRegistered numbers n Obsolete → ⊥
-IsLeastObsolete numbers from (Some number) =
-    (from ≤ number) × IsRegistered numbers number Obsolete
-    × ((n : ℕ) → from ≤ n → IsRegistered numbers n Obsolete → number ≤ n)
+-- ---- holds
+
+-- the refusals that a hold and its end meet
+abbrev pub hold_fault : ℕ → Option Refusal
+hold_fault count = if count == 255 then Some TooManyHolds else None
+
+abbrev pub unhold_fault : ℕ → Option Refusal
+unhold_fault count = if count == 0 then Some NoHold else None
+
+-- the lane has this count of holds
+abbrev pub with_hold : FileRegister → ℕ → ℕ → FileRegister
+with_hold r lane count = record r { holds = slice_set r.holds lane count }
+
+-- the refusal that finding meets: holds stand
+abbrev pub disabled : FileRegister → Option Refusal
+disabled r = if nat_lt 0 (sum r.holds) then Some (Disabled (sum r.holds)) else None
+
+-- ---- finding
+
+-- the number is Grabbed where it was found
+abbrev pub grab : List ℕ → RegisteredFile → RegisteredFile
+grab found f = record f { status = if list_any (λ n. n == f.number) found then status.Grabbed else f.status }
+
+-- What was found is Grabbed, and one more job is under way.
+abbrev pub grabbed : FileRegister → List ℕ → FileRegister
+grabbed r found = record r { numbers = map (grab found) r.numbers; jobs = r.jobs + 1 }
+
+-- Found are the numbers that were Obsolete and below the bound, ascending, and they are Grabbed.
+pub record IsFound (old new : FileRegister) (found : List ℕ) : Type 0 where
+  pub ready : AreInOrder (IsReady old) found
+  pub is : new ≡ grabbed old found
+
+-- the number is not registered, and below the bound and the next number
+pub record IsStray (r : FileRegister) (number : ℕ) : Type 0 where
+  pub new : registered number r.numbers ≡ 0
+  pub low : number < least_captured r.captured
+  pub below : number < r.next
+
+-- a stray that was found
+abbrev pub stray : ℕ → RegisteredFile
+stray number = record { number = number; status = status.Grabbed; family = None }
+
+-- Found are the numbers that were Obsolete and below the bound and the strays of the list, ascending. They are Grabbed,
+-- and the strays are registered.
+pub record IsScanned (old new : FileRegister) (listed found : List ℕ) : Type 0 where
+  pub strays : List ℕ
+  pub chosen : IsChosen (IsStray old) listed strays
+  pub found_are : AreInOrder (λ n. IsReady old n ⊎ In n strays) found
+  pub is : new ≡ record old { numbers = map (grab found) old.numbers ++ map stray strays; jobs = old.jobs + 1 }
+
+-- The Obsolete number is Grabbed, and one more job is under way.
+pub record IsTaken (number : ℕ) (old new : FileRegister) : Type 0 where
+  pub numbers : IsMarked number status.Obsolete status.Grabbed old.numbers new.numbers
+  pub rest : new ≡ record old { numbers = new.numbers; jobs = old.jobs + 1 }
+
+-- the number may be taken: it is Obsolete and below the bound, and no hold stands
+pub record MayBeTaken (r : FileRegister) (number : ℕ) : Type 0 where
+  pub ready : IsReady r number
+  pub free : sum r.holds ≡ 0
+
+-- what a Grabbed number becomes
+abbrev pub ungrabbed : Bool → FileStatus
+ungrabbed gone = if gone then status.Gone else status.Obsolete

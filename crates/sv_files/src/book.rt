@@ -1,69 +1,102 @@
 // The book of file numbers.
-ghost use Rattle.std.specs.Prelude.{◌≡◌, ◌≤◌, ◌<◌, ◌+◌, [], ◌∷◌, ◌++◌, ℕ, Some, None, IsSome, IfSome, IfOk, OnErr, slice_get, replicate, count_by, is_some, is_none, ◌&&◌, cond};
-ghost use Rattle.std.specs.Ordering.{nat_cmp};
-ghost use Rattle.std.specs.BTreeMap.{get};
-ghost use Rattle.sv_model.specs.declared.records.FileStatus.TheVariants.{Pending, Live, Obsolete, Gone};
-ghost use Rattle.sv_model.specs.Summaries.{is_gone, obsolete_of};
+ghost use Rattle.std.specs.Prelude.{◌≡◌, ◌≤◌, ◌<◌, [], ◌∷◌, ◌++◌, ℕ, Some, None, IfOk, OnErr, slice_get, map, if◌then◌else◌};
+ghost use Rattle.sv_model.specs.declared.records.FileStatus.TheVariants as status;
 ghost use Rattle.sv_model.specs.declared.refusals.Refusal.TheVariants.{RegisterFull};
+ghost use Rattle.sv_model.specs.Numbers.{FilesStand, IsRegistered, MarksOnly, captures, least_captured};
 ghost use Rattle.sv_model.specs.Refusals.{Refuses};
-ghost use Rattle.sv_files.specs.Calls.{IsRegistered, IsLeastObsolete, IsSettled, MarksOnly, capture_fault, captured_for, least_captured, settled_status};
-ghost use Rattle.sv_files.specs.Laws.{FileLaws};
+ghost use Rattle.sv_files.specs.Calls.{AreNamed, Settles, capture_fault, captured_for, live_file, opened, settled_status};
 
-use crate::obsolete::{first_obsolete, is_obsolete};
+mod counts;
+mod finding;
+mod holds;
+
+use crate::numbers::Numbers;
+use crate::settled::{Settled, status_of};
 use std::alloc::Global;
-use std::collections::BTreeMap;
 use std::marker::Model;
-use sv_model::{FamilyId, FileNumber, FileStatus, OutOfMemory, Refusal, RegisteredFile};
+use sv_model::{FamilyId, FileNumber, FileStatus, OutOfMemory, Refusal};
 
 /// How many numbers are captured at most.
-pub const GREATEST_CAPTURED: usize = 1_048_576;
+pub const MAX_CAPTURED: usize = 1_048_576;
 
-/// How many families there are at most.
+/// How many holds a lane has at most.
+pub const MAX_HOLDS: u8 = 255;
+
+/// How many purges and scans are under way at most: one a lane.
+pub const MAX_JOBS: u32 = 32;
+
 const FAMILIES: usize = 16;
 
-/// Every file number ever registered, with its status, and the number that each family's flush or
-/// compaction under way has captured. Contracts see the register.
+const LANES: usize = 32;
+
+/// Every file number ever registered, with its status; the number that each family's flush or compaction
+/// under way has captured; the holds of each lane; and how many purges and scans are under way. Contracts
+/// see the register.
 #[derive(Drop)]
 pub struct FileBook {
-    numbers: Vec<RegisteredFile>,
-    /// By number, where each number that is not Gone stands in `numbers`.
-    kept: BTreeMap<u64, usize>,
+    numbers: Numbers,
     captured: [Option<FileNumber>; FAMILIES],
+    holds: [u8; LANES],
+    jobs: u32,
     /// How many numbers were ever captured.
     made: usize,
     next: u64,
 }
 
 impl Model for FileBook {
-    ghost use Rattle.std.specs.Prelude.{replicate};
     ghost use Rattle.sv_model.specs.Books.{FileRegister};
     ghost use Rattle.sv_files.specs.Kept.{IsFileBook};
 
     ghost Value = { FileRegister };
 
     ghost view = { λ b. record {
-      numbers = b.numbers.items;
+      numbers = b.numbers;
       captured = b.captured;
-      holds = replicate 32 0;
-      jobs = 0;
+      holds = b.holds;
+      jobs = b.jobs;
       next = b.next;
     } };
 
-    ghost invariant = { λ b. IsFileBook b.numbers.items b.kept b.captured b.made b.next };
+    ghost invariant = { λ b. IsFileBook (record {
+      numbers = b.numbers;
+      captured = b.captured;
+      holds = b.holds;
+      jobs = b.jobs;
+      next = b.next;
+    }) b.made };
 }
 
 impl FileBook {
     /// No number registered. Takes no memory.
     pub fn new(alloc: Global, next: FileNumber) -> FileBook
-        ensures { result ≡ record { numbers = []; captured = replicate 16 None; holds = replicate 32 0; jobs = 0; next = next } }
+        requires { 1 ≤ next }
+        ensures { result ≡ opened next [] }
     {
-        FileBook {
-            numbers: Vec::new(alloc),
-            kept: BTreeMap::new(alloc),
-            captured: [None; FAMILIES],
-            made: 0,
-            next: next.0,
+        with_numbers(Numbers::new(alloc), 0, next)
+    }
+
+    /// Exactly these numbers registered, each Live and as if its family had captured it.
+    pub fn named(
+        alloc: Global,
+        next: FileNumber,
+        files: &[(FamilyId, FileNumber)],
+    ) -> Result<FileBook, OutOfMemory>
+        requires next { 1 ≤ next }
+        requires named { AreNamed next files.now }
+        ensures { IfOk result (λ book. book ≡ opened next (map live_file files.now)) }
+    {
+        let mut numbers = Numbers::new(alloc);
+        for (family, number) in files {
+            numbers.push(number.0, FileStatus::Live, Some(*family))?;
         }
+        Ok(with_numbers(numbers, files.len(), next))
+    }
+
+    /// What always holds of the register. Does nothing and takes no memory.
+    pub fn laws(&self)
+        ensures { FilesStand self.now }
+    {
+        let _ = &self.next;
     }
 
     /// Captures the next number for the family's flush or compaction: it is Pending. Refused as
@@ -77,63 +110,36 @@ impl FileBook {
         ensures refused { Refuses (capture_fault self.old) result }
         ensures kept { OnErr result (self.new ≡ self.old) }
     {
-        if self.made >= GREATEST_CAPTURED || self.next == u64::MAX {
+        if self.made >= MAX_CAPTURED || self.next == u64::MAX {
             return Err(Refusal::RegisterFull);
         }
-        if self.numbers.reserve(1).is_err() {
-            return Err(Refusal::OutOfMemory);
-        }
-        if self.kept.insert(self.next, self.numbers.len()).is_err() {
-            return Err(Refusal::OutOfMemory);
-        }
         let number = self.next;
+        self.numbers
+            .push(number, FileStatus::Pending, Some(family))?;
         self.captured[family.0 as usize] = Some(FileNumber(number));
-        self.numbers.push_reserved(pending(number, &family));
         self.made += 1;
         self.next = number + 1;
         Ok(FileNumber(number))
     }
 
-    /// Ends the capture of a Pending number: it is Live or else Obsolete, and its family has no captured
+    /// Ends the capture of a Pending number: it is Live or Obsolete, and its family has no captured
     /// number. Takes no memory.
-    pub fn settle(&mut self, number: FileNumber, live: bool)
-        requires { IsRegistered self.old.numbers number Pending }
-        ensures { IsSettled number live self.old self.new }
+    pub fn settle(&mut self, number: FileNumber, settled: Settled)
+        requires { IsRegistered self.old.numbers number status.Pending }
+        ensures { Settles number (settled_status settled) self.old self.new }
     {
-        let at = position(&self.kept, number.0);
-        let file = &mut self.numbers[at];
-        file.status = settled(live);
-        if let Some(family) = file.family {
+        let was = self.numbers.mark(number.0, status_of(settled));
+        if let Some(family) = was.family {
             self.captured[family.0 as usize] = None;
         }
     }
 
     /// Makes a Live number Obsolete. Takes no memory.
     pub fn retire(&mut self, number: FileNumber)
-        requires { IsRegistered self.old.numbers number Live }
-        ensures { MarksOnly number Live Obsolete self.old self.new }
+        requires { IsRegistered self.old.numbers number status.Live }
+        ensures { MarksOnly number status.Live status.Obsolete self.old self.new }
     {
-        let at = position(&self.kept, number.0);
-        self.numbers[at].status = FileStatus::Obsolete;
-    }
-
-    /// Makes an Obsolete number Gone, whose file was removed. Takes no memory.
-    pub fn removed(&mut self, number: FileNumber)
-        requires { IsRegistered self.old.numbers number Obsolete }
-        ensures { MarksOnly number Obsolete Gone self.old self.new }
-    {
-        let at = position(&self.kept, number.0);
-        self.numbers[at].status = FileStatus::Gone;
-        let _ = self.kept.remove(&number.0);
-    }
-
-    /// The least Obsolete number that is at least this one. Takes no memory, and passes over what is
-    /// Pending, Live or Grabbed in between.
-    pub fn obsolete_from(&self, from: u64) -> Option<FileNumber>
-        ensures least { IsLeastObsolete self.now.numbers from result }
-        ensures below { IfSome result (λ number. number < self.now.next) }
-    {
-        first_obsolete(&self.kept, self.numbers.as_slice(), from, self.next)
+        let _ = self.numbers.mark(number.0, FileStatus::Obsolete);
     }
 
     /// The number that the family's flush or compaction under way has captured. Takes no memory.
@@ -146,8 +152,7 @@ impl FileBook {
 
     /// The next number. Takes no memory.
     pub fn next(&self) -> FileNumber
-        ensures value { result ≡ self.now.next }
-        ensures laws { FileLaws self.now.numbers self.now.captured self.now.next }
+        ensures { result ≡ self.now.next }
     {
         FileNumber(self.next)
     }
@@ -160,95 +165,28 @@ impl FileBook {
     }
 
     /// Whether a capture would be refused: 1,048,576 numbers were captured or the next number is the
-    /// greatest `u64`.
+    /// greatest `u64`. Takes no memory.
     pub fn is_full(&self) -> bool
-        ensures { capture_fault self.now ≡ cond result (Some RegisterFull) None }
+        ensures { capture_fault self.now ≡ (if result then Some RegisterFull else None) }
     {
-        self.made >= GREATEST_CAPTURED || self.next == u64::MAX
-    }
-
-    /// How many numbers were ever captured. Takes no memory.
-    pub fn made(&self) -> u64
-        ensures { result ≡ count_by (λ f. is_some f.family) self.now.numbers }
-    {
-        self.made as u64
-    }
-
-    /// How many of the captured numbers are Gone. Looks at each number. Takes no memory.
-    pub fn gone(&self) -> u64
-        ensures { result ≡ count_by (λ f. is_some f.family && is_gone f.status) self.now.numbers }
-    {
-        self.numbers
-            .iter()
-            .filter(|file| file.family.is_some() && is_gone(file))
-            .count() as u64
-    }
-
-    /// How many numbers were registered as strays. Looks at each number. Takes no memory.
-    pub fn strays_seen(&self) -> u64
-        ensures { result ≡ count_by (λ f. is_none f.family) self.now.numbers }
-    {
-        self.numbers
-            .iter()
-            .filter(|file| file.family.is_none())
-            .count() as u64
-    }
-
-    /// How many of the strays are Gone. Looks at each number. Takes no memory.
-    pub fn strays_gone(&self) -> u64
-        ensures { result ≡ count_by (λ f. is_none f.family && is_gone f.status) self.now.numbers }
-    {
-        self.numbers
-            .iter()
-            .filter(|file| file.family.is_none() && is_gone(file))
-            .count() as u64
-    }
-
-    /// The Obsolete numbers, in the order in which they were registered. Looks at each number.
-    pub fn left(&self, alloc: Global) -> Result<Vec<FileNumber>, OutOfMemory>
-        ensures { IfOk result (λ left. left.items ≡ obsolete_of self.now.numbers) }
-    {
-        let left = self
-            .numbers
-            .iter()
-            .filter(|file| is_obsolete(file))
-            .map(|file| file.number)
-            .collect(alloc)?;
-        Ok(left)
+        self.made >= MAX_CAPTURED || self.next == u64::MAX
     }
 }
 
-fn is_gone(file: &RegisteredFile) -> bool
-    ensures { result ≡ is_gone file.now.status }
+// A book of these numbers, of which so many were captured.
+fn with_numbers(numbers: Numbers, made: usize, next: FileNumber) -> FileBook
+    requires stand { FilesStand (opened next numbers) }
+    requires made { made ≡ captures numbers }
+    ensures { result ≡ opened next numbers }
 {
-    matches!(file.status, FileStatus::Gone)
-}
-
-fn pending(number: u64, family: &FamilyId) -> RegisteredFile
-    ensures { result ≡ record { number = number; status = Pending; family = Some family.now } }
-{
-    RegisteredFile {
-        number: FileNumber(number),
-        status: FileStatus::Pending,
-        family: Some(*family),
+    FileBook {
+        numbers,
+        captured: [None; FAMILIES],
+        holds: [0; LANES],
+        jobs: 0,
+        made,
+        next: next.0,
     }
-}
-
-fn settled(live: bool) -> FileStatus
-    ensures { result ≡ settled_status live }
-{
-    if live {
-        FileStatus::Live
-    } else {
-        FileStatus::Obsolete
-    }
-}
-
-fn position(kept: &BTreeMap<u64, usize>, number: u64) -> usize
-    requires { IsSome (get nat_cmp kept.now number) }
-    ensures { get nat_cmp kept.now number ≡ Some result }
-{
-    kept[&number]
 }
 
 fn least(captured: &[Option<FileNumber>]) -> u64

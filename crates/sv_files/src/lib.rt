@@ -1,7 +1,12 @@
-//! The register of file numbers: what was captured, and what may be done with each number.
+//! The register of file numbers: what was captured, what may be done with each number, and what keeps
+//! files from being removed.
 #![tactic(auto)]
 
 mod book;
-mod obsolete;
+mod grabs;
+mod numbers;
+mod queue;
+mod settled;
 
-pub use book::{FileBook, GREATEST_CAPTURED};
+pub use book::{FileBook, MAX_CAPTURED, MAX_HOLDS, MAX_JOBS};
+pub use settled::Settled;

@@ -1,2 +1,5 @@
-pub mod Freezing
+pub mod CopiedRows
+pub mod FrozenRows
 pub mod Indexing
+pub mod NumberedRows
+pub mod PartedNumbers

@@ -1,2 +1,2 @@
-pub mod Cell
-pub mod Newest
+pub mod Freezing
+pub mod Index

@@ -1,55 +1,84 @@
 // A memtable that is open to writes.
-ghost use Rattle.std.specs.Prelude.{◌≡◌, ◌<◌, ◌≤◌, ◌++◌, ◌∷◌, [], false, IfOk, OnOk, OnErr, length};
+ghost use Rattle.std.specs.Prelude.{◌≡◌, ◌<◌, ◌≤◌, ◌++◌, ◌∷◌, [], IfOk, OnOk, OnErr, length, take, option_map};
 ghost use Rattle.std.specs.Option.{option_copied};
-ghost use Rattle.sv_model.specs.Flat.{IsFlatOf};
 ghost use Rattle.sv_model.specs.Journal.{newest_op};
-ghost use Rattle.sv_memtable.specs.Newest.{IsIndexed};
+ghost use Rattle.sv_model.specs.Registers.{entry};
+ghost use Rattle.sv_memtable.specs.Index.{IsIndexed, Notes, LeadsAsBefore};
+ghost use Rattle.sv_memtable.specs.Freezing.{IsFrozenOf};
 
 use crate::frozen::Frozen;
+use crate::numbers::Numbers;
 use std::alloc::Global;
 use std::collections::BTreeMap;
 use std::marker::Model;
-use sv_model::{Key, MemId, Op, OutOfMemory, Row};
+use sv_model::{Key, MemId, Numbered, Op, OutOfMemory, Row};
 
 /// The greatest number of rows of a memtable.
-pub const GREATEST_ROWS: u32 = 65_536;
+pub const MAX_ROWS: u32 = 65_536;
 
-/// An open memtable: its rows in the order in which they were added, beside an ordered map from each
-/// key to its newest row, so that a look-up is one search of the map.
+/// An open memtable: its rows in the order in which they were added, which numbers them from 1, beside an ordered map
+/// from each key to the numbers of its rows. So a look-up is one search of the map, and one of the key's numbers where
+/// only the first rows count.
 #[derive(Drop)]
 pub struct MemCell {
     alloc: Global,
     id: MemId,
     rows: Vec<Row>,
-    newest: BTreeMap<Key, u32>,
+    index: BTreeMap<Key, Numbers>,
 }
 
 impl Model for MemCell {
-    ghost use Rattle.sv_memtable.specs.Cell.{Cell};
+    ghost use Rattle.sv_model.specs.Cells.{Cell};
 
     ghost Value = { Cell };
 
     ghost view = { λ c. record { id = c.id; rows = c.rows.items } };
 
-    ghost use Rattle.sv_memtable.specs.Newest.{IsIndexed};
+    ghost use Rattle.sv_memtable.specs.Index.{IsIndexed};
 
-    ghost invariant = { λ c. IsIndexed c.rows.items c.newest };
+    ghost invariant = { λ c. IsIndexed c.rows.items c.index };
 }
 
-/// Copies of the rows to which the map leads, in the order of its keys.
-fn newest_rows(
+/// Appends the number of a row of the key to the key's numbers. A refusal leaves the numbers as they were.
+fn note(
+    alloc: Global,
+    index: &mut BTreeMap<Key, Numbers>,
+    key: &Key,
+    number: u32,
+) -> Result<(), OutOfMemory>
+    ensures ok { OnOk result (Notes index.old key.now number index.new) }
+    ensures err { OnErr result (LeadsAsBefore index.old index.new) }
+{
+    match index.get_mut(key) {
+        Some(numbers) => numbers.push(number),
+        None => {
+            index.insert(key.clone()?, Numbers::of(alloc, number))?;
+            Ok(())
+        }
+    }
+}
+
+/// What the row of this number does.
+fn op_of(rows: &[Row], number: u32) -> &Op
+    requires from { 1 ≤ number }
+    requires to { number ≤ length rows.now }
+    ensures { option_map (λ r. r.op) (entry rows.now number) ≡ Some result.now }
+{
+    &rows[number as usize - 1].op
+}
+
+/// Copies of the rows with their numbers, by key and in one key the newest first.
+fn numbered_rows(
     alloc: Global,
     rows: &[Row],
-    newest: &BTreeMap<Key, u32>,
-) -> Result<Vec<Row>, OutOfMemory>
-    requires { IsIndexed rows.now newest.now }
-    ensures { IfOk result (λ copies. IsFlatOf rows.now false copies.items) }
+    index: &BTreeMap<Key, Numbers>,
+) -> Result<Vec<Numbered>, OutOfMemory>
+    requires { IsIndexed rows.now index.now }
+    ensures { IfOk result (λ copies. IsFrozenOf rows.now copies.items) }
 {
-    let mut copies = Vec::with_capacity(alloc, newest.len())?;
-    for at in newest.values() {
-        if let Some(row) = rows.get(*at as usize) {
-            copies.push(row.clone()?)?;
-        }
+    let mut copies = Vec::with_capacity(alloc, rows.len())?;
+    for numbers in index.values() {
+        numbers.copy_rows(&mut copies, rows)?;
     }
     Ok(copies)
 }
@@ -57,14 +86,13 @@ fn newest_rows(
 impl MemCell {
     /// A memtable without rows. Takes no memory.
     pub fn new(alloc: Global, id: MemId) -> MemCell
-        ensures id { result.id ≡ id }
-        ensures rows { result.rows ≡ [] }
+        ensures { result ≡ record { id = id; rows = [] } }
     {
         MemCell {
             alloc,
             id,
             rows: Vec::new(alloc),
-            newest: BTreeMap::new(alloc),
+            index: BTreeMap::new(alloc),
         }
     }
 
@@ -78,14 +106,14 @@ impl MemCell {
     /// The number of its rows. Takes no memory.
     pub fn len(&self) -> u32
         ensures rows { result ≡ length self.now.rows }
-        ensures greatest { result ≤ 65536 }
+        ensures few { result ≤ MAX_ROWS }
     {
         self.rows.len() as u32
     }
 
     /// Appends a row. A refusal leaves the memtable as it was.
     pub fn add(&mut self, key: &Key, op: &Op) -> Result<(), OutOfMemory>
-        requires { length self.old.rows < 65536 }
+        requires { length self.old.rows < MAX_ROWS }
         ensures ok { OnOk result (self.new ≡ record self.old { rows = self.old.rows ++ record { key = key.now; op = op.now } ∷ [] }) }
         ensures err { OnErr result (self.new ≡ self.old) }
     {
@@ -94,8 +122,8 @@ impl MemCell {
             key: key.clone()?,
             op: op.clone()?,
         };
-        let at = self.rows.len() as u32;
-        self.newest.insert(key.clone()?, at)?;
+        let number = self.rows.len() as u32 + 1;
+        note(self.alloc, &mut self.index, key, number)?;
         self.rows.push_reserved(row);
         Ok(())
     }
@@ -104,24 +132,32 @@ impl MemCell {
     pub fn find(&self, key: &Key) -> Option<&Op>
         ensures { option_copied result ≡ newest_op key.now self.now.rows }
     {
-        match self.newest.get(key) {
+        match self.index.get(key) {
             None => None,
-            Some(at) => match self.rows.get(*at as usize) {
+            Some(numbers) => Some(op_of(self.rows.as_slice(), numbers.newest())),
+        }
+    }
+
+    /// What the newest row of the key among the first `upto` rows does; none where there is no row of it among them. By
+    /// binary search in the rows of the key. Takes no memory.
+    pub fn find_at(&self, key: &Key, upto: u32) -> Option<&Op>
+        ensures { option_copied result ≡ newest_op key.now (take upto self.now.rows) }
+    {
+        match self.index.get(key) {
+            None => None,
+            Some(numbers) => match numbers.newest_upto(upto) {
                 None => None,
-                Some(row) => Some(&row.op),
+                Some(number) => Some(op_of(self.rows.as_slice(), number)),
             },
         }
     }
 
-    /// The newest row of each key, ascending by key, of the rows so far. Copies only these; the memtable stays open.
+    /// Every row so far, numbered from 1 in the order in which they were added: by key, and in one key the newest first.
+    /// Copies the rows; the memtable stays open.
     pub fn freeze(&self) -> Result<Frozen, OutOfMemory>
-        ensures id { IfOk result (λ f. f.id ≡ self.now.id) }
-        ensures rows { IfOk result (λ f. IsFlatOf self.now.rows false f.rows) }
-        // No more rows than were added, and some where one was.
-        ensures few { IfOk result (λ f. length f.rows ≤ length self.now.rows) }
-        ensures some { IfOk result (λ f. 1 ≤ length self.now.rows → 1 ≤ length f.rows) }
+        ensures { IfOk result (λ frozen. frozen ≡ self.now) }
     {
-        let rows = newest_rows(self.alloc, self.rows.as_slice(), &self.newest)?;
+        let rows = numbered_rows(self.alloc, self.rows.as_slice(), &self.index)?;
         Ok(Frozen::of(self.id, rows))
     }
 }

@@ -1,69 +1,75 @@
 // A memtable that takes no more writes.
-ghost use Rattle.std.specs.Prelude.{◌≡◌, IfOk};
-ghost use Rattle.std.specs.Option.{option_copied, option_map};
-ghost use Rattle.sv_model.specs.Flat.{Ascends, row_at};
+ghost use Rattle.std.specs.Prelude.{◌≡◌, take};
+ghost use Rattle.std.specs.Option.{option_copied};
+ghost use Rattle.sv_model.specs.Journal.{newest_op};
+ghost use Rattle.sv_memtable.specs.Freezing.{IsFrozenOf, added_of};
 
-use std::alloc::Global;
 use std::marker::Model;
-use sv_model::{Key, MemId, Op, OutOfMemory, Row, find_row};
+use sv_model::{Key, MemId, Numbered, Op, find_upto};
 
-/// A memtable that takes no more writes: the newest row of each key, ascending by key.
+/// A memtable that takes no more writes, seen by contracts as the open memtable that it is made of: every row with its
+/// number, by key, and in one key the newest first.
 #[derive(Drop)]
 pub struct Frozen {
     id: MemId,
-    rows: Vec<Row>,
+    rows: Vec<Numbered>,
 }
 
 impl Model for Frozen {
-    ghost use Rattle.sv_memtable.specs.Cell.{Cell};
+    ghost use Rattle.sv_model.specs.Cells.{Cell};
 
     ghost Value = { Cell };
 
-    ghost view = { λ f. record { id = f.id; rows = f.rows.items } };
+    ghost use Rattle.sv_memtable.specs.Freezing.{IsFrozenOf, added_of};
 
-    ghost use Rattle.sv_model.specs.Flat.{Ascends};
+    ghost view = { λ f. record { id = f.id; rows = added_of f.rows.items } };
 
-    ghost invariant = { λ f. Ascends f.rows.items };
+    ghost invariant = { λ f. IsFrozenOf (added_of f.rows.items) f.rows.items };
 }
 
 impl Frozen {
     /// A frozen memtable of these rows. Takes no memory.
-    pub(crate) fn of(id: MemId, rows: Vec<Row>) -> Frozen
-        requires { Ascends rows.items }
-        ensures { result ≡ record { id = id; rows = rows.items } }
+    pub(crate) fn of(id: MemId, rows: Vec<Numbered>) -> Frozen
+        requires { IsFrozenOf (added_of rows.items) rows.items }
+        ensures { result ≡ record { id = id; rows = added_of rows.items } }
     {
         Frozen { id, rows }
     }
 
-    /// Which memtable it was. Takes no memory.
+    /// Which memtable it is. Takes no memory.
     pub fn id(&self) -> MemId
         ensures { result ≡ self.now.id }
     {
         self.id
     }
 
-    /// Its rows. Takes no memory.
-    pub fn rows(&self) -> &[Row]
-        ensures rows { result.now ≡ self.now.rows }
-        ensures ascends { Ascends self.now.rows }
+    /// Every row, numbered from 1 in the order in which they were added: by key, and in one key the newest first.
+    /// Takes no memory.
+    pub fn rows(&self) -> &[Numbered]
+        ensures { IsFrozenOf self.now.rows result.now }
     {
         self.rows.as_slice()
     }
 
-    /// Copies of its rows.
-    pub fn to_rows(&self, alloc: Global) -> Result<Vec<Row>, OutOfMemory>
-        ensures { IfOk result (λ rows. rows.items ≡ self.now.rows) }
+    /// What the newest row of the key does; none where there is no row of it. By binary search. Takes no memory.
+    pub fn find(&self, key: &Key) -> Option<&Op>
+        ensures { option_copied result ≡ newest_op key.now self.now.rows }
     {
-        Ok(self.rows.as_slice().to_vec(alloc)?)
+        // No row has a number above their count.
+        match find_upto(self.rows.as_slice(), key, self.rows.len() as u64) {
+            None => None,
+            Some(numbered) => Some(&numbered.row.op),
+        }
     }
 
-    /// What the row of the key does; none where there is no row of it. Takes no memory.
-    pub fn find(&self, key: &Key) -> Option<&Op>
-        ensures { option_copied result ≡ option_map (λ row. row.op) (row_at key.now self.now.rows) }
+    /// What the newest row of the key among the first `upto` rows does; none where there is no row of it among them. By
+    /// binary search. Takes no memory.
+    pub fn find_at(&self, key: &Key, upto: u32) -> Option<&Op>
+        ensures { option_copied result ≡ newest_op key.now (take upto self.now.rows) }
     {
-        match find_row(self.rows.as_slice(), key) {
+        match find_upto(self.rows.as_slice(), key, u64::from(upto)) {
             None => None,
-            Some(row) => Some(&row.op),
+            Some(numbered) => Some(&numbered.row.op),
         }
     }
 }

@@ -3,6 +3,7 @@
 
 mod cells;
 mod frozen;
+mod numbers;
 
-pub use cells::{GREATEST_ROWS, MemCell};
+pub use cells::{MAX_ROWS, MemCell};
 pub use frozen::Frozen;

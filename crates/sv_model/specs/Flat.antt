@@ -1,5 +1,5 @@
 -- A flat: of each key and each interval between cuts the newest write, among a range of a family's writes.
-use Rattle.std.specs.Prelude.{◌≡◌, ◌≤◌, ℕ, suc, Bool, true, false, cond, ◌&&◌, ◌==◌, nat_le, List, [], ◌∷◌, ◌++◌, Option, find, take, drop, reverse, option_map, unwrap_or, length}
+use Rattle.std.specs.Prelude.{◌≡◌, ◌≤◌, ◌⊎◌, ℕ, suc, Bool, true, false, cond, ◌&&◌, ◌==◌, nat_le, List, [], ◌∷◌, ◌++◌, Option, find, take, drop, reverse, option_map, unwrap_or, length}
 use Rattle.std.specs.List.{filter, filter_map}
 use Rattle.sv_model.specs.declared.writes.Write.{Write}
 use Rattle.sv_model.specs.declared.writes.Row.{Row}
@@ -7,6 +7,7 @@ use Rattle.sv_model.specs.declared.writes.Kept.{Kept}
 use Rattle.sv_model.specs.declared.writes.Numbered.{Numbered}
 use Rattle.sv_model.specs.declared.cuts.Bottom.{Bottom}
 use Rattle.sv_model.specs.Journal.{same_key, of_family, rows_of, is_delete}
+use Rattle.sv_model.specs.Lists.{In}
 use Rattle.sv_model.specs.Order.{OrderedBy, key_of_kept, end_of_kept}
 
 -- the writes `from + 1` to `to` of a family
@@ -29,6 +30,10 @@ ends_of cuts to = cuts ++ to ∷ []
 -- the end of the interval in which a write lies: the first that it does not pass
 abbrev pub end_at : List ℕ → ℕ → ℕ
 end_at ends number = unwrap_or (find (λ e. nat_le number e) ends) 0
+
+-- the same where the ends are these cuts and the last write: the first cut that a number does not pass, else the last write
+abbrev pub end_among : List ℕ → ℕ → ℕ → ℕ
+end_among cuts to number = unwrap_or (find (λ cut. nat_le number cut) cuts) to
 
 -- the newest write of a key in the interval that ends here, bearing that end
 abbrev pub newest_in : List ℕ → List Numbered → List ℕ → ℕ → Option Kept
@@ -71,3 +76,11 @@ CutsFrom low (cut ∷ cuts) high = (suc low ≤ cut) × (suc cut ≤ high) × Cu
 pub record AreCuts (from to : ℕ) (cuts : List ℕ) : Type 0 where
   pub ascend : CutsFrom from cuts to
   pub few : length cuts ≤ 64
+
+-- A flat of this range tells what was there at the cut: it is one of the cuts, or does not lie inside the range.
+abbrev pub IsClearIn : ℕ → ℕ → List ℕ → ℕ → Type 0
+IsClearIn from to cuts cut = In cut cuts ⊎ ((to ≤ cut) ⊎ (cut ≤ from))
+
+-- what a file says of what lies below it where something may, and where it keeps no cut
+abbrev pub plain : Bottom
+plain = record { last = false; cuts = [] }

@@ -1,11 +1,13 @@
 pub mod After
 pub mod Books
+pub mod Cells
 pub mod Counts
 pub mod Described
 pub mod Families
 pub mod Faults
 pub mod Files
 pub mod Flat
+pub mod HeldFiles
 pub mod Holders
 pub mod Journal
 pub mod Lawful
@@ -24,4 +26,6 @@ pub mod Registers
 pub mod Snapshots
 pub mod Steady
 pub mod Summaries
+pub mod TableText
+pub mod TableTextFields
 pub mod Together

@@ -1,6 +1,6 @@
 -- The order of rows of a table or a frozen memtable: by key, and in one key the newest first. How new a row is, is its
 -- rank: the end that it bears, or its number.
-use Rattle.std.specs.Prelude.{ℕ, Bool, ◌&&◌, ◌||◌, nat_lt, nat_le, List, [], ◌∷◌, Option, find, IsTrue}
+use Rattle.std.specs.Prelude.{◌≡◌, ℕ, Bool, false, ◌&&◌, ◌||◌, nat_lt, nat_le, List, [], ◌∷◌, Option, find, IsTrue}
 use Rattle.std.specs.Ordering.{nat_cmp, is_lt}
 use Rattle.std.specs.Cmp.Lexicographic.{slice_cmp}
 use Rattle.sv_model.specs.declared.writes.Kept.{Kept}
@@ -23,6 +23,15 @@ OrderedFrom key rank last (x ∷ xs) = IsTrue (comes_before key rank last x) × 
 abbrev pub OrderedBy : {A : Type 0} → (A → List ℕ) → (A → ℕ) → List A → Type 0
 OrderedBy key rank [] = Unit {0}
 OrderedBy key rank (x ∷ xs) = OrderedFrom key rank x xs
+
+-- no item's key is below that of the one before
+abbrev pub RisesFrom : {A : Type 0} → (A → List ℕ) → A → List A → Type 0
+RisesFrom key last [] = Unit {0}
+RisesFrom key last (x ∷ xs) = (is_below (key x) (key last) ≡ false) × RisesFrom key x xs
+
+abbrev pub RisesBy : {A : Type 0} → (A → List ℕ) → List A → Type 0
+RisesBy key [] = Unit {0}
+RisesBy key (x ∷ xs) = RisesFrom key x xs
 
 -- the item stands ahead of the items of a key whose rank is at most this
 abbrev pub is_ahead : {A : Type 0} → (A → List ℕ) → (A → ℕ) → List ℕ → ℕ → A → Bool

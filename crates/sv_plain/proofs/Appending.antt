@@ -5,7 +5,7 @@ use Rattle.std.proofs.lemmas.List.Elements.{All-append, filter-append}
 use Rattle.sv_model.specs.declared.Write.{Write}
 use Rattle.sv_model.specs.Journal.{borne_by, of_family, rows_of, row_of}
 use Rattle.sv_model.specs.Books.{Books}
-use Rattle.sv_memtable.specs.Cell.{Cell}
+use Rattle.sv_model.specs.Cells.{Cell}
 use Rattle.sv_plain.specs.declared.immutables.Immutable.{Immutable}
 use Rattle.sv_plain.specs.Stands.{IsOwn, Stands}
 use Rattle.sv_plain.specs.Store.{active_rows}
@@ -32,6 +32,7 @@ appended b reach base serial place list version active cell its w s family lane 
         own = All-append (IsOwn (length b.memtables)) b.journal (w ∷ []) own (all_one (IsOwn (length b.memtables)) w (record { family = family; lane = lane; mem = omega (arith, mem) }));
         versions = s.store.versions;
         families = s.store.families;
+        free = s.store.free;
       };
       tops = s.tops;
       supers = s.supers;

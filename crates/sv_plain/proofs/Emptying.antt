@@ -10,7 +10,7 @@ use Rattle.sv_model.specs.Named.{HasMember}
 use Rattle.sv_model.specs.Registers.{entry, change, GoesOn}
 use Rattle.sv_model.specs.Books.{Books}
 use Rattle.sv_model.proofs.Registers.{entry_change, goes-same, goes-change, goes-on, length-change}
-use Rattle.sv_memtable.specs.Cell.{Cell}
+use Rattle.sv_model.specs.Cells.{Cell}
 use Rattle.sv_cells.specs.Calls as cells
 use Rattle.sv_imm.specs.Changes as lists
 use Rattle.sv_registry.specs.Calls as registry
@@ -173,5 +173,6 @@ emptied b reach base serial place list version pack active its supers new_lists 
         own = subst (λ k. All (IsOwn k) b.journal) (sym count) s.store.own;
         versions = s.store.versions;
         families = s.store.families;
+        free = s.store.free;
       },
     )

@@ -10,7 +10,8 @@ use Rattle.sv_model.specs.declared.Version.{Version}
 use Rattle.sv_model.specs.declared.RegisteredFile.{RegisteredFile}
 use Rattle.sv_model.specs.declared.Family.{Family}
 use Rattle.sv_model.specs.declared.Top.{Top}
-use Rattle.sv_model.specs.After.{After, Continues, KeepsSuper, KeepsMemtable, KeepsList, KeepsVersion, KeepsNumber, KeepsFamily, KeepsTop}
+use Rattle.sv_plain.specs.Follows.{Follows}
+use Rattle.sv_model.specs.After.{Continues, KeepsSuper, KeepsMemtable, KeepsList, KeepsVersion, KeepsNumber, KeepsFamily, KeepsTop}
 use Rattle.sv_model.specs.Ranges.{reach_of}
 use Rattle.sv_model.specs.Registers.{GoesOn, Has}
 use Rattle.sv_model.specs.Books.{Books, files_of}
@@ -86,7 +87,7 @@ has_super family a b go has =
     (has.0, k.0, k.1, ap (λ (d : Descriptor). d.family) k.2.descriptor ∙ has.3)
 
 -- what comes after what comes after
-pub after_through : (a b c : Books) → After a b → After b c → After a c
+pub after_through : (a b c : Books) → Follows a b → Follows b c → Follows a c
 after_through a b c f g = record {
   journal = (f.journal.0 ++ g.journal.0, g.journal.1 ∙ ap (λ z. z ++ g.journal.0) f.journal.1 ∙ append_assoc a.journal f.journal.0 g.journal.0);
   supers = goes-on KeepsSuper a.supers b.supers c.supers super_through f.supers g.supers;
@@ -110,7 +111,7 @@ after_through a b c f g = record {
 }
 
 -- the same books
-pub after_itself : (a : Books) → a.tops ≡ top_of true a ∷ [] → After a a
+pub after_itself : (a : Books) → a.tops ≡ top_of true a ∷ [] → Follows a a
 after_itself a at = record {
   journal = continues_itself a.journal;
   supers = goes-same KeepsSuper a.supers super_itself;
@@ -124,11 +125,11 @@ after_itself a at = record {
   tops = tops_go a a true at at (omega arith);
 }
 
-pub after_same : (a b : Books) → a.tops ≡ top_of true a ∷ [] → b ≡ a → After a b
-after_same a b at e = subst (λ z. After a z) (sym e) (after_itself a at)
+pub after_same : (a b : Books) → a.tops ≡ top_of true a ∷ [] → b ≡ a → Follows a b
+after_same a b at e = subst (λ z. Follows a z) (sym e) (after_itself a at)
 
 -- a longer journal
-pub after_journal : (a : Books) (more : List Write) → a.tops ≡ top_of true a ∷ [] → After a (record a { journal = a.journal ++ more })
+pub after_journal : (a : Books) (more : List Write) → a.tops ≡ top_of true a ∷ [] → Follows a (record a { journal = a.journal ++ more })
 after_journal a more at = record {
   journal = (more, refl);
   supers = goes-same KeepsSuper a.supers super_itself;
@@ -142,6 +143,6 @@ after_journal a more at = record {
   tops = tops_go a (record a { journal = a.journal ++ more }) true at at (omega arith);
 }
 
-pub after_written : (a b : Books) (journal : List Write) (w : Write) → a.tops ≡ top_of true a ∷ [] → b ≡ record a { journal = journal } → journal ≡ a.journal ++ w ∷ [] → After a b
+pub after_written : (a b : Books) (journal : List Write) (w : Write) → a.tops ≡ top_of true a ∷ [] → b ≡ record a { journal = journal } → journal ≡ a.journal ++ w ∷ [] → Follows a b
 after_written a b journal w at same added =
-    subst (λ z. After a z) (sym (same ∙ ap (λ z. record a { journal = z }) added)) (after_journal a (w ∷ []) at)
+    subst (λ z. Follows a z) (sym (same ∙ ap (λ z. record a { journal = z }) added)) (after_journal a (w ∷ []) at)

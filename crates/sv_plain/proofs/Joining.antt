@@ -1,12 +1,11 @@
 -- The immutable memtables and their ranges.
-use Rattle.std.proofs.Common.{◌≡◌, ◌==◌, ◌<◌, ◌≤◌, ◌+◌, ◌*◌, ℕ, suc, Bool, false, List, [], ◌∷◌, ◌++◌, All, length, take, drop, refl, sym, ◌∙◌, ap, subst, arith}
+use Rattle.std.proofs.Common.{◌≡◌, ◌==◌, ◌<◌, ◌≤◌, ◌+◌, ◌*◌, ℕ, suc, Bool, List, [], ◌∷◌, ◌++◌, All, length, take, drop, refl, sym, ◌∙◌, ap, subst, arith}
 use Rattle.std.proofs.lemmas.List.{take-append-le}
 use Rattle.std.proofs.lemmas.List.Elements.{filter-append}
 use Rattle.sv_model.specs.declared.Write.{Write}
 use Rattle.sv_model.specs.declared.Memtable.{Memtable}
-use Rattle.sv_model.specs.declared.Row.{Row}
 use Rattle.sv_model.specs.Journal.{of_family, rows_of}
-use Rattle.sv_model.specs.Flat.{IsFlat, IsFlatOf, range_of}
+use Rattle.sv_model.specs.Flat.{range_of}
 use Rattle.sv_model.proofs.Registers.{entry-old}
 use Rattle.sv_plain.specs.declared.immutables.Immutable.{Immutable}
 use Rattle.sv_plain.specs.Immutables.{IsImmutable, ImmutablesJoin}
@@ -57,9 +56,6 @@ pub range-more : (journal more : List Write) (family from to : ℕ) → to ≤ l
 range-more journal more family from to fits =
     ap (λ z. rows_of (drop from z)) (ap (take to) (filter-append (λ (w : Write). w.family == family) journal more) ∙ take-append-le to (of_family family journal) (of_family family more) fits)
 
-pub flat-more : (journal more : List Write) (family from to : ℕ) (bottom : Bool) (rows : List Row) → to ≤ length (of_family family journal) → IsFlat journal family from to bottom rows → IsFlat (journal ++ more) family from to bottom rows
-flat-more journal more family from to bottom rows fits h = subst (λ z. IsFlatOf z bottom rows) (sym (range-more journal more family from to fits)) h
-
 -- the journal grows
 pub join-more : (memtables : List Memtable) (journal more : List Write) (above from : ℕ) (members : List ℕ) (its : List Immutable) (to : ℕ) → to ≤ length (of_family 0 journal) → ImmutablesJoin memtables journal above from members its to → ImmutablesJoin memtables (journal ++ more) above from members its to
 join-more memtables journal more above from [] [] to fits h = h
@@ -74,7 +70,7 @@ join-more memtables journal more above from (m ∷ members) (it ∷ its) to fits
     id = h.2.id;
     some = h.2.some;
     few = h.2.few;
-    rows = flat-more journal more 0 it.from it.to false it.rows.rows (omega (arith, fits, join_le memtables journal m it.to members its to h.3)) h.2.rows;
+    rows = h.2.rows ∙ sym (range-more journal more 0 it.from it.to (omega (arith, fits, join_le memtables journal m it.to members its to h.3)));
   },
   join-more memtables journal more m it.to members its to fits h.3,
 )

@@ -74,17 +74,6 @@ pub newest_joined : (key : List ℕ) (journal : List Write) (family a m b : ℕ)
 newest_joined key journal family a m b p q =
     ap (newest_op key) (sym (ranges_join journal family a m b p q)) ∙ newest_op-append key (range_of journal family a m) (range_of journal family m b)
 
--- ---- flats
-
-kept_all : (x : Option Row) → kept false x ≡ x
-kept_all None = refl
-kept_all (Some row) = refl
-
--- the row that the flat of a range has of a key is the newest of the range
-pub flat_op : (key : List ℕ) (journal : List Write) (family from to : ℕ) (bottom : Bool) (rows : List Row) → bottom ≡ false → IsFlat journal family from to bottom rows → option_map (λ r. r.op) (row_at key rows) ≡ newest_op key (range_of journal family from to)
-flat_op key journal family from to bottom rows above flat =
-    ap (option_map (λ r. r.op)) (flat.newest key ∙ ap (λ (b : Bool). kept b (newest_row key (range_of journal family from to))) above ∙ kept_all (newest_row key (range_of journal family from to)))
-
 -- ---- the immutable memtables
 
 pub immutable_is : (key : List ℕ) (memtables : List Memtable) (journal : List Write) (above from : ℕ) (members : List ℕ) (its : List Immutable) (to : ℕ) → ImmutablesJoin memtables journal above from members its to → immutable_op key its ≡ newest_op key (range_of journal 0 from to)
@@ -94,7 +83,7 @@ immutable_is key memtables journal above from [] (it ∷ its) to h = absurd h
 immutable_is key memtables journal above from (m ∷ members) [] to h = absurd h
 immutable_is key memtables journal above from (m ∷ members) (it ∷ its) to h =
     let later = immutable_is key memtables journal m it.to members its to h.3 in
-    let here = flat_op key journal 0 it.from it.to false it.rows.rows refl h.2.rows in
+    let here = ap (newest_op key) h.2.rows in
     let some = h.2.some in
     (λ i. newer_or (later i) (here i))
     ∙ sym (newest_joined key journal 0 it.from it.to to (omega arith) (join_le memtables journal m it.to members its to h.3))

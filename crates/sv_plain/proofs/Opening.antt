@@ -10,7 +10,7 @@ use Rattle.sv_model.specs.declared.FileMeta.{FileMeta}
 use Rattle.sv_model.specs.Lists.{In}
 use Rattle.sv_model.specs.Registers.{entry}
 use Rattle.sv_model.specs.Books.{Books, FileRegister}
-use Rattle.sv_memtable.specs.Cell.{Cell}
+use Rattle.sv_model.specs.Cells.{Cell}
 use Rattle.sv_cells.specs.Calls as cells
 use Rattle.sv_imm.specs.Changes as lists
 use Rattle.sv_version.specs.Changes as versions
@@ -42,6 +42,7 @@ first_books cell place next = record {
   metas = [];
   families = default_family ∷ [];
   tops = top_from true 1 1 ∷ [];
+  snapshots = [];
 }
 
 none_in : {A : Type 0} (x : A) → In x [] → ⊥
@@ -69,6 +70,7 @@ stands_first cell place next active within id rows = record {
     own = none_all (IsOwn 1);
     versions = alone (λ (v : Version). v.live) (versions.live_version []) refl;
     families = refl;
+    free = record { captured = refl; holds = refl; jobs = refl };
   };
   tops = refl;
   supers = alone (λ (s : SuperVersion). s.live) (first_super place) refl;
@@ -127,6 +129,7 @@ opened_books memtables new_lists new_versions supers journal metas files = recor
   metas = metas;
   families = default_family ∷ [];
   tops = top_from true (length supers) (length new_versions) ∷ [];
+  snapshots = [];
 }
 
 pub opened : (next mem list version pack : ℕ) (memtables : List Memtable) (new_lists : List MemtableList) (new_versions : List Version) (supers : List SuperVersion) (journal : List Write) (metas : List FileMeta) (files : FileRegister) (active : Cell) (its : List Immutable)

@@ -10,18 +10,19 @@ use Rattle.sv_model.specs.declared.RegisteredFile.{RegisteredFile}
 use Rattle.sv_model.specs.declared.Refusal.{Refusal}
 use Rattle.sv_model.specs.declared.Refusal.TheVariants as refusal
 use Rattle.sv_model.specs.Lists.{In}
-use Rattle.sv_model.specs.After.{After, KeepsSuper, KeepsMemtable, KeepsList, KeepsVersion, KeepsNumber}
+use Rattle.sv_plain.specs.Follows.{Follows}
+use Rattle.sv_model.specs.After.{KeepsSuper, KeepsMemtable, KeepsList, KeepsVersion, KeepsNumber}
 use Rattle.sv_model.specs.Moments.{WasFlushed, WereManyMemtables, WereManyLive, WereAllMade, WereAllNumbered}
 use Rattle.sv_model.specs.Places.{live_count}
 use Rattle.sv_model.specs.Ranges.{FilesJoin}
 use Rattle.sv_model.specs.Refusals.{first_due}
 use Rattle.sv_model.specs.Books.{Books}
 use Rattle.sv_model.proofs.Registers.{goes-same, goes-push}
-use Rattle.sv_memtable.specs.Cell.{Cell}
+use Rattle.sv_model.specs.Cells.{Cell}
 use Rattle.sv_cells.specs.Laws as cell_laws
 use Rattle.sv_registry.specs.Laws as laws
 use Rattle.sv_files.specs.Calls.{captured_for}
-use Rattle.sv_files.specs.Laws.{captures}
+use Rattle.sv_model.specs.Numbers.{captures}
 use Rattle.sv_plain.specs.declared.immutables.Immutable.{Immutable}
 use Rattle.sv_plain.specs.Immutables.{ImmutablesJoin}
 use Rattle.sv_plain.specs.Due.{FlushMoment, flush_fault, has_rows}
@@ -33,7 +34,7 @@ use Rattle.sv_plain.proofs.Owning.{own_family}
 use Rattle.sv_plain.proofs.Refused.{count_le, waits_counted}
 
 -- ---- the number of the file
-pub after_capture : (b : Books) (metas : List FileMeta) (file : FileMeta) → b.tops ≡ top_of true b ∷ [] → metas ≡ b.metas ++ file ∷ [] → After b (record b { files = captured_for b.files 0; metas = metas })
+pub after_capture : (b : Books) (metas : List FileMeta) (file : FileMeta) → b.tops ≡ top_of true b ∷ [] → metas ≡ b.metas ++ file ∷ [] → Follows b (record b { files = captured_for b.files 0; metas = metas })
 after_capture b metas file at is = record {
   journal = continues_itself b.journal;
   supers = goes-same KeepsSuper b.supers super_itself;

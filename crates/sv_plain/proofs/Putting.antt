@@ -19,7 +19,8 @@ use Rattle.sv_model.proofs.Registers.{entry_push}
 use Rattle.sv_model.specs.Files.{Files, file_of, with_file, file_name}
 use Rattle.sv_dir.specs.Files.{LeavesAny, PutsFile, same_name}
 use Rattle.sv_dir.proofs.Laws.{file_of-with_file}
-use Rattle.sv_plain.specs.Held.{Both, Holds, IsFileText, OthersStay}
+use Rattle.sv_model.specs.HeldFiles.{IsFileText, OthersStay}
+use Rattle.sv_plain.specs.Held.{Both, Holds}
 use Rattle.sv_plain.specs.Store.{last_files, top_of}
 use Rattle.sv_plain.proofs.Joining.{flat-more}
 

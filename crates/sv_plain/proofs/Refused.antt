@@ -13,7 +13,7 @@ use Rattle.sv_model.specs.declared.FileMeta.{FileMeta}
 use Rattle.sv_model.specs.declared.Version.{Version}
 use Rattle.sv_model.specs.Refusals.{IsDue, first_due}
 use Rattle.sv_model.specs.Books.{Books}
-use Rattle.sv_memtable.specs.Cell.{Cell}
+use Rattle.sv_model.specs.Cells.{Cell}
 use Rattle.sv_cells.specs.Calls as cells
 use Rattle.sv_cells.specs.Laws as cell_laws
 use Rattle.sv_registry.specs.Laws as laws

@@ -10,7 +10,8 @@ use Rattle.sv_dir.specs.declared.DirError.{DirError}
 use Rattle.sv_dir.specs.declared.DirError.TheVariants as dir_error
 use Rattle.sv_model.specs.Files.{Files}
 use Rattle.sv_dir.specs.Files.{MayRemove, RemovesFile}
-use Rattle.sv_files.specs.Calls.{IsLeastObsolete, MarksOnly}
+use Rattle.sv_plain.specs.Outcomes.{IsLeastObsolete}
+use Rattle.sv_model.specs.Numbers.{MarksOnly}
 use Rattle.sv_plain.specs.Held.{Both}
 use Rattle.sv_plain.specs.Removed.{CountsAs, IsRemoval, Removes, count_obsolete, end_after}
 use Rattle.sv_plain.proofs.RemovalCounts.{AreApart, all_below, counts_err, counts_ok, failed, gone_below, left_below, none_below, tried_below}

@@ -9,7 +9,7 @@ use Rattle.sv_model.specs.After.{KeepsSuper, KeepsMemtable, KeepsList, KeepsVers
 use Rattle.sv_model.specs.Registers.{entry, change, GoesOn}
 use Rattle.sv_model.specs.Books.{Books}
 use Rattle.sv_model.proofs.Registers.{goes-same, goes-push, entry-old, entry_push}
-use Rattle.sv_memtable.specs.Cell.{Cell}
+use Rattle.sv_model.specs.Cells.{Cell}
 use Rattle.sv_imm.specs.Changes as lists
 use Rattle.sv_registry.specs.declared.Freed.{Freed}
 use Rattle.sv_plain.specs.declared.immutables.Immutable.{Immutable}

@@ -7,7 +7,7 @@ use Rattle.sv_model.specs.declared.SuperVersion.{SuperVersion}
 use Rattle.sv_model.specs.declared.Memtable.{Memtable}
 use Rattle.sv_model.specs.declared.MemtableList.{MemtableList}
 use Rattle.sv_model.specs.Journal.{borne_by, of_family, row_of, rows_of}
-use Rattle.sv_model.specs.Flat.{IsFlat, IsFlatOf}
+use Rattle.sv_model.specs.Flat.{range_of}
 use Rattle.sv_model.specs.Lists.{In}
 use Rattle.sv_model.specs.Named.{IsLiveList}
 use Rattle.sv_model.specs.Places.{live_count}
@@ -15,7 +15,7 @@ use Rattle.sv_model.specs.Registers.{entry, change}
 use Rattle.sv_model.specs.Books.{Books}
 use Rattle.sv_model.proofs.Lists.{total-push}
 use Rattle.sv_model.proofs.Registers.{entry-old, entry_push, entry_le}
-use Rattle.sv_memtable.specs.Cell.{Cell}
+use Rattle.sv_model.specs.Cells.{Cell}
 use Rattle.sv_cells.specs.Calls as cells
 use Rattle.sv_cells.specs.Laws as cell_laws
 use Rattle.sv_imm.specs.Changes as lists
@@ -46,7 +46,7 @@ pub record Made (b : Books) (reach base serial place list version pack : ℕ) (a
   pub it_from : it.from ≡ base
   pub it_to : it.to ≡ length b.journal
   pub it_id : it.rows.id ≡ active.id
-  pub it_rows : IsFlatOf active.rows false it.rows.rows
+  pub it_rows : it.rows.rows ≡ active.rows
   pub cell_id : cell.id ≡ made.mem
   pub cell_rows : cell.rows ≡ []
 
@@ -145,10 +145,8 @@ switched b is_open reach base serial place list version pack active its memtable
     let own = s.store.own in
     let family : of_family 0 b.journal ≡ b.journal = own_family (length b.memtables) b.journal own in
     let waiting = few_waiting b reach base serial place list version active its s h.room in
-    let rows_are : IsFlat b.journal 0 it.from it.to false it.rows.rows =
-    subst (λ z. IsFlatOf z false it.rows.rows)
-    (s.active_rows ∙ ap rows_of (ap (λ k. drop k b.journal) (sym h.it_from) ∙ ap (λ z. drop it.from z) (sym (ap (λ z. take it.to z) family ∙ take_all it.to b.journal (let e = h.it_to in omega arith)))))
-    h.it_rows in
+    let rows_are : it.rows.rows ≡ range_of b.journal 0 it.from it.to =
+    h.it_rows ∙ s.active_rows ∙ ap rows_of (ap (λ k. drop k b.journal) (sym h.it_from) ∙ ap (λ z. drop it.from z) (sym (ap (λ z. take it.to z) family ∙ take_all it.to b.journal (let e = h.it_to in omega arith)))) in
     let short_base : it.from < it.to = (let r = some_left base b.journal (subst (λ z. 0 < length z) s.bears h.rows) in let t = h.it_to in let u = h.it_from in omega arith) in
     let few_rows : it.to ≤ it.from + 65536 = (let c = ap length s.active_rows ∙ length-map (drop base b.journal) row_of ∙ length-drop base b.journal in let n = s.narrow in let t = h.it_to in let u = h.it_from in omega (arith, c, n, t, u)) in
     let above : 0 < active.id = (let e = s.active_id in let w = (entry_within b.memtables (length b.memtables) _ s.active_at) in omega arith) in
@@ -163,7 +161,7 @@ switched b is_open reach base serial place list version pack active its memtable
     (record { cell = s.cell; at = entry_here; id = h.it_id; some = short_base; few = few_rows; rows = rows_are }) in (
       n.pack_is,
       record {
-        store = record { own = own_more (length b.memtables) (length memtables) b.journal (omega arith) own; versions = s.store.versions; families = s.store.families };
+        store = record { own = own_more (length b.memtables) (length memtables) b.journal (omega arith) own; versions = s.store.versions; families = s.store.families; free = s.store.free };
         tops = ap (λ o. top_from o (length supers) (length b.versions) ∷ []) is_true;
         supers = hand_over (λ x. x.live) b.supers supers (next_super made version (length b.journal) n.place) _ serial s.supers new_supers s.serial_is refl refl;
         lists = hand_over (λ x. x.live) b.lists new_lists (lists.live_list (s.lists.last.members ++ active.id ∷ [])) _ list s.lists lists_is s.list_is refl refl;

@@ -7,7 +7,8 @@ use Rattle.sv_model.specs.declared.MemtableList.{MemtableList}
 use Rattle.sv_model.specs.declared.Version.{Version}
 use Rattle.sv_model.specs.declared.FileMeta.{FileMeta}
 use Rattle.sv_model.specs.declared.FileStatus.TheVariants.{Live}
-use Rattle.sv_model.specs.After.{After, KeepsSuper, KeepsList, KeepsVersion}
+use Rattle.sv_plain.specs.Follows.{Follows}
+use Rattle.sv_model.specs.After.{KeepsSuper, KeepsList, KeepsVersion}
 use Rattle.sv_model.specs.Books.{FileRegister}
 use Rattle.sv_model.specs.Journal.{borne_by}
 use Rattle.sv_model.specs.Registers.{GoesOn}
@@ -46,7 +47,7 @@ pub none_wait : (p : Parts) (file : FileMeta) (made : Flushed) (supers : List Su
 none_wait p file made supers new_lists memtables new_versions files h = waits_counted _ _ _ _ _ _ _ _ _ (stands_after p file made supers new_lists memtables new_versions files h)
 
 pub goes : (p : Parts) (file : FileMeta) (made : Flushed) (supers : List SuperVersion) (new_lists : List MemtableList) (memtables : List Memtable) (new_versions : List Version) (files : FileRegister) → (h : Steps p file made supers new_lists memtables new_versions files)
-    → After (books_of (before_it p file made h.taking)) (books_after p supers new_lists memtables new_versions files)
+    → Follows (books_of (before_it p file made h.taking)) (books_after p supers new_lists memtables new_versions files)
 goes p file made supers new_lists memtables new_versions files h =
     let t = h.taking in
     let o = t.outputs in

@@ -40,6 +40,7 @@ stands_after p file made supers new_lists memtables new_versions files h =
         own = subst (λ k. All (IsOwn k) p.journal.items) (sym count_m) s.store.own;
         versions = versions_last p file made t new_versions h.gone h.dropped;
         families = s.store.families;
+        free = settled.free s.store.free;
       };
       tops = ap (λ b. top_from b (length supers) (length new_versions) ∷ []) o.is;
       supers = supers_last p file made t supers h.freed h.reclaimed;

@@ -7,7 +7,8 @@ use Rattle.sv_model.specs.declared.SuperVersion.{SuperVersion}
 use Rattle.sv_model.specs.declared.Version.{Version}
 use Rattle.sv_model.specs.declared.RegisteredFile.{RegisteredFile}
 use Rattle.sv_model.specs.declared.Top.{Top}
-use Rattle.sv_model.specs.After.{After, Continues, KeepsNumber}
+use Rattle.sv_plain.specs.Follows.{Follows}
+use Rattle.sv_model.specs.After.{Continues, KeepsNumber}
 use Rattle.sv_model.specs.Books.{Books, files_of}
 use Rattle.sv_model.specs.Journal.{of_family}
 use Rattle.sv_model.specs.Lists.{In}
@@ -66,7 +67,7 @@ holds_on a b before now goes same files holds =
     (holds_more (books_of a) goes.0 true files before.stands.tops (fits a before) holds)
 
 -- a write keeps what the files hold, as callers see it
-pub holds_written : (books : Books) (a b : Parts) → books_of a ≡ books → Keeps a → IsOpen books → Runs b → After (books_of a) (books_of b) → b.versions ≡ a.versions → (files : Files) → Holds books files → Holds (books_of b) files
+pub holds_written : (books : Books) (a b : Parts) → books_of a ≡ books → Keeps a → IsOpen books → Runs b → Follows (books_of a) (books_of b) → b.versions ≡ a.versions → (files : Files) → Holds books files → Holds (books_of b) files
 holds_written books a b view keeps is now after same files holds =
     holds_on a b (runs_open a keeps (subst IsOpen (sym view) is)) now after.journal same files (subst (λ (x : Books). Holds x files) (sym view) holds)
 
@@ -91,7 +92,7 @@ numbers_stay old new first count goes all = all_from (λ (f : RegisteredFile). f
     let here : first ≤ z.0.number = omega (arith, old_one, kept) in
     subst (λ (f : RegisteredFile). first ≤ f.number) same here)
 
-pub numbered_on : (a b : Books) (first : ℕ) → After a b → length b.files.numbers ≡ length a.files.numbers → IsNumberedFrom first a → IsNumberedFrom first b
+pub numbered_on : (a b : Books) (first : ℕ) → Follows a b → length b.files.numbers ≡ length a.files.numbers → IsNumberedFrom first a → IsNumberedFrom first b
 numbered_on a b first after count h = record {
   next = (let n = h.next in let m = after.next in omega (arith, n, m));
   all = numbers_stay a.files.numbers b.files.numbers first count after.numbers h.all;

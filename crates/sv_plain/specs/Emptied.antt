@@ -3,7 +3,7 @@ use Rattle.std.specs.Prelude.{◌≡◌, ℕ, false, [], ◌∷◌, Some}
 use Rattle.sv_model.specs.declared.SuperVersion.{SuperVersion}
 use Rattle.sv_model.specs.declared.Memtable.{Memtable}
 use Rattle.sv_model.specs.declared.MemtableList.{MemtableList}
-use Rattle.sv_model.specs.After.{After}
+use Rattle.sv_plain.specs.Follows.{Follows}
 use Rattle.sv_model.specs.Registers.{entry}
 use Rattle.sv_model.specs.Books.{Books}
 use Rattle.sv_plain.specs.Store.{top_of}
@@ -18,4 +18,4 @@ pub record IsEmptied (old new : Books) : Type 0 where
   pub versions : new.versions ≡ old.versions
   pub files : new.files ≡ old.files
   pub metas : new.metas ≡ old.metas
-  pub after : After old new
+  pub after : Follows old new

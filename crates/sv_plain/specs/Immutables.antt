@@ -1,20 +1,21 @@
 -- The immutable memtables: each has the writes of a range of the family, and the ranges join.
-use Rattle.std.specs.Prelude.{◌≡◌, ◌<◌, ◌≤◌, ◌+◌, ℕ, false, true, List, [], ◌∷◌, Option, None, Some, option_map}
+use Rattle.std.specs.Prelude.{◌≡◌, ◌<◌, ◌≤◌, ◌+◌, ℕ, true, List, [], ◌∷◌, Option, None, Some}
 use Rattle.sv_model.specs.declared.Write.{Write}
 use Rattle.sv_model.specs.declared.Op.{Op}
 use Rattle.sv_model.specs.declared.Memtable.{Memtable}
-use Rattle.sv_model.specs.Flat.{IsFlat, row_at}
+use Rattle.sv_model.specs.Flat.{range_of}
+use Rattle.sv_model.specs.Journal.{newest_op}
 use Rattle.sv_model.specs.Registers.{entry}
 use Rattle.sv_plain.specs.declared.immutables.Immutable.{Immutable}
 
--- The immutable memtable is this one of the register, and has the newest rows of its range of writes.
+-- The immutable memtable is this one of the register, and has the rows of its range of writes.
 pub record IsImmutable (memtables : List Memtable) (journal : List Write) (mem : ℕ) (it : Immutable) : Type 0 where
   pub cell : ℕ
   pub at : entry memtables mem ≡ Some (record { family = 0; first = it.from; cell = cell; live = true })
   pub id : it.rows.id ≡ mem
   pub some : it.from < it.to
   pub few : it.to ≤ it.from + 65536
-  pub rows : IsFlat journal 0 it.from it.to false it.rows.rows
+  pub rows : it.rows.rows ≡ range_of journal 0 it.from it.to
 
 -- These are the members of a list, oldest first, with ids above `above`; their ranges join.
 abbrev pub ImmutablesJoin : List Memtable → List Write → (above from : ℕ) → List ℕ → List Immutable → (to : ℕ) → Type 0
@@ -31,4 +32,4 @@ newer_or None older = older
 -- what the newest row of the key does in these
 abbrev pub immutable_op : List ℕ → List Immutable → Option Op
 immutable_op key [] = None
-immutable_op key (it ∷ immutables) = newer_or (immutable_op key immutables) (option_map (λ row. row.op) (row_at key it.rows.rows))
+immutable_op key (it ∷ immutables) = newer_or (immutable_op key immutables) (newest_op key it.rows.rows)

@@ -13,8 +13,10 @@ pub mod Lookups
 pub mod Outputs
 pub mod Ended
 pub mod Flushing
+pub mod Follows
 pub mod Prepared
 pub mod Emptied
 pub mod Removed
 pub mod Taken
 pub mod Alone
+pub mod Outcomes

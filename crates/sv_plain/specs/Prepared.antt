@@ -3,7 +3,7 @@ use Rattle.std.specs.Prelude.{◌≡◌, ◌+◌, cond}
 use Rattle.sv_model.specs.declared.FileMeta.{FileMeta}
 use Rattle.sv_model.specs.declared.Refusal.{Refusal}
 use Rattle.sv_model.specs.declared.Refusal.TheVariants as refusal
-use Rattle.sv_model.specs.After.{After}
+use Rattle.sv_plain.specs.Follows.{Follows}
 use Rattle.sv_plain.specs.declared.parts.Parts.{Parts}
 use Rattle.sv_plain.specs.Due.{has_rows}
 use Rattle.sv_plain.specs.Flushing.{Outputs}
@@ -29,4 +29,4 @@ pub record Prepared (old new : Parts) (file : FileMeta) : Type 0 where
   pub versions : new.versions ≡ old.versions
   pub empty : active_rows (books_of new) ≡ 0
   pub waits : immutable_count (books_of new) ≡ immutable_count (books_of old) + cond (has_rows (books_of old)) 1 0
-  pub after : After (books_of old) (books_of new)
+  pub after : Follows (books_of old) (books_of new)

@@ -5,7 +5,7 @@ use Rattle.sv_model.specs.declared.FileStatus.TheVariants.{Live}
 use Rattle.sv_model.specs.declared.MemtableList.{MemtableList}
 use Rattle.sv_model.specs.declared.SuperVersion.{SuperVersion}
 use Rattle.sv_model.specs.declared.Version.{Version}
-use Rattle.sv_model.specs.After.{After}
+use Rattle.sv_plain.specs.Follows.{Follows}
 use Rattle.sv_registry.specs.Calls as registry
 use Rattle.sv_plain.specs.declared.installs.Flushed.{Flushed}
 use Rattle.sv_plain.specs.declared.parts.Parts.{Parts}
@@ -33,4 +33,4 @@ pub record IsTaken (old : Parts) (file : FileMeta) (outputs : Outputs old file) 
   pub files : last_files (books_of new) ≡ last_files (books_of old) ++ file ∷ []
   pub empty : active_rows (books_of new) ≡ active_rows (books_of old)
   pub flushed : immutable_count (books_of new) ≡ 0
-  pub after : After (books_of old) (books_of new)
+  pub after : Follows (books_of old) (books_of new)

@@ -16,6 +16,7 @@ books_of p = record {
   metas = p.metas.items;
   families = default_family ∷ [];
   tops = top_from p.is_open (length p.registry) (length p.versions) ∷ [];
+  snapshots = [];
 }
 
 -- the open store

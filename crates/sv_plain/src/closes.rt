@@ -1,9 +1,10 @@
 // Close: what the store keeps open goes, and then the files that nothing names.
 ghost use Rattle.std.specs.Prelude.{◌≡◌, ◌≤◌, length};
-ghost use Rattle.sv_model.specs.After.{After};
+ghost use Rattle.sv_plain.specs.Follows.{Follows};
 ghost use Rattle.sv_plain.specs.Closed.{EndsAs, IsClosed};
 ghost use Rattle.sv_plain.specs.Emptied.{IsEmptied};
-ghost use Rattle.sv_plain.specs.Held.{Both, GoneAreAbsent, Holds, OthersStay};
+ghost use Rattle.sv_model.specs.HeldFiles.{GoneAreAbsent, OthersStay};
+ghost use Rattle.sv_plain.specs.Held.{Both, Holds};
 ghost use Rattle.sv_plain.specs.Views.{Rests, Runs, books_of};
 
 use crate::endings::end_members;
@@ -37,7 +38,7 @@ impl Parts {
         ensures versions { (books_of self.new).versions ≡ (books_of self.old).versions }
         ensures files { (books_of self.new).files.next ≡ (books_of self.old).files.next }
         ensures numbered { length (books_of self.new).files.numbers ≡ length (books_of self.old).files.numbers }
-        ensures after { After (books_of self.old) (books_of self.new) }
+        ensures after { Follows (books_of self.old) (books_of self.new) }
         ensures end { EndsAs result (books_of self.new) (D.faults dir.old) (D.faults dir.new) }
         ensures later { D.faults dir.old ≤ D.faults dir.new }
         ensures holds { Both (λ before after. Holds (books_of self.old) before → Holds (books_of self.new) after) (D.files dir.old) (D.files dir.new) }

@@ -1,13 +1,14 @@
 // The end of a flush: its file is Obsolete, or the last Version has it.
 ghost use Rattle.std.specs.Prelude.{◌≡◌, ◌≤◌, ◌++◌, ◌∷◌, [], ℕ, IfOk, IfErr, OnOk, OnErr, None, length};
 ghost use Rattle.sv_model.specs.declared.FileStatus.TheVariants.{Live, Obsolete};
-ghost use Rattle.sv_model.specs.After.{After};
+ghost use Rattle.sv_plain.specs.Follows.{Follows};
 ghost use Rattle.sv_model.specs.Faults.{RoseBy};
 ghost use Rattle.sv_model.specs.Refusals.{Refuses};
 ghost use Rattle.sv_registry.specs.Calls.{make_fault};
 ghost use Rattle.sv_plain.specs.Due.{FlushMoment, fault_of, flush_fault};
 ghost use Rattle.sv_plain.specs.Flushing.{IsFinished, IsNumbered, LeftAs, Outputs, SettlesAs};
-ghost use Rattle.sv_plain.specs.Held.{Both, Holds, OthersStay};
+ghost use Rattle.sv_model.specs.HeldFiles.{OthersStay};
+ghost use Rattle.sv_plain.specs.Held.{Both, Holds};
 ghost use Rattle.sv_plain.specs.Settled.{IsFlushed, IsStopped};
 ghost use Rattle.sv_plain.specs.Store.{IsNumberedFrom, active_rows, immutable_count, last_files};
 ghost use Rattle.sv_plain.specs.Taken.{IsTaken, IsTaking};
@@ -17,6 +18,7 @@ use crate::endings::end_members;
 use crate::installs::{Flushed, make_output};
 use crate::parts::Parts;
 use sv_dir::Dir;
+use sv_files::Settled;
 use sv_model::{FileMeta, Refusal};
 
 impl Parts {
@@ -28,9 +30,9 @@ impl Parts {
         ensures rest { books_of self.new ≡ record (books_of self.old) { files = self.new.files } }
         ensures journal { self.new.journal ≡ self.old.journal }
         ensures metas { self.new.metas ≡ self.old.metas }
-        ensures after { After (books_of self.old) (books_of self.new) }
+        ensures after { Follows (books_of self.old) (books_of self.new) }
     {
-        self.files.settle(file.number, false);
+        self.files.settle(file.number, Settled::Obsolete);
     }
 
     // The SuperVersion before is Gone, with all that it alone named; the file is Live.
@@ -42,7 +44,7 @@ impl Parts {
         let flushed = self.lists.release(self.list);
         end_members(&mut self.memtables, flushed.as_slice());
         let _ = self.versions.release(self.last);
-        self.files.settle(file.number, true);
+        self.files.settle(file.number, Settled::Live);
         self.immutables.clear();
         self.reach = self.base;
         self.pack = made.pack;
@@ -64,7 +66,7 @@ impl Parts {
         ensures flushed { OnOk result (immutable_count (books_of self.new) ≡ 0) }
         ensures stopped { OnErr result ((outputs : Outputs self.old file.now) → SettlesAs (books_of self.old) (books_of self.new) outputs.before file.now Obsolete) }
         ensures kept { OnErr result (books_of self.new ≡ record (books_of self.old) { files = self.new.files }) }
-        ensures after { After (books_of self.old) (books_of self.new) }
+        ensures after { Follows (books_of self.old) (books_of self.new) }
     {
         let count = self.immutables.len() as u8;
         match make_output(
@@ -99,7 +101,7 @@ impl Parts {
         ensures versions { OnErr result (self.new.versions ≡ self.old.versions) }
         ensures journal { self.new.journal ≡ self.old.journal }
         ensures numbers { (outputs : Outputs self.old file) → IsNumbered outputs.before (books_of self.new) file }
-        ensures after { After (books_of self.old) (books_of self.new) }
+        ensures after { Follows (books_of self.old) (books_of self.new) }
         ensures runs { Runs self.new }
         ensures holds { Both (λ before after. Holds (books_of self.old) before → Holds (books_of self.new) after) (D.files dir.old) (D.files dir.new) }
         ensures others { Both (OthersStay self.new.files.numbers) (D.files dir.old) (D.files dir.new) }
@@ -127,7 +129,7 @@ impl Parts {
         ensures stopped { IfErr result (IsStopped (books_of self.old) (books_of self.new)) }
         ensures moment { IfErr result (FlushMoment (books_of self.new)) }
         ensures journal { self.new.journal ≡ self.old.journal }
-        ensures after { After (books_of self.old) (books_of self.new) }
+        ensures after { Follows (books_of self.old) (books_of self.new) }
         ensures runs { Runs self.new }
         ensures numbered { (first : ℕ) → IsNumberedFrom first (books_of self.old) → IsNumberedFrom first (books_of self.new) }
         ensures holds { Both (λ before after. Holds (books_of self.old) before → Holds (books_of self.new) after) (D.files dir.old) (D.files dir.new) }

@@ -1,6 +1,6 @@
 // The store of one lane. Contracts see it as books.
 ghost use Rattle.std.specs.Prelude.{◌≡◌, ◌≤◌, ℕ, [], IfOk, IfErr, OnErr, None, Some, length, All, IsSomeAnd, true, false};
-ghost use Rattle.sv_model.specs.After.{After};
+ghost use Rattle.sv_plain.specs.Follows.{Follows};
 ghost use Rattle.sv_model.specs.Faults.{RoseBy};
 ghost use Rattle.sv_model.specs.Journal.{look};
 ghost use Rattle.sv_model.specs.Reads.{Serves};
@@ -11,7 +11,8 @@ ghost use Rattle.sv_model.specs.Files.{Files};
 ghost use Rattle.sv_plain.specs.Alone.{IsAlone};
 ghost use Rattle.sv_plain.specs.Closed.{EndsAs, IsClosed};
 ghost use Rattle.sv_plain.specs.Due.{FlushMoment, flush_fault, ReadMoment, WriteMoment, fault_of, is_switch_due, write_fault};
-ghost use Rattle.sv_plain.specs.Held.{Both, GoneAreAbsent, Holds, OthersStay};
+ghost use Rattle.sv_model.specs.HeldFiles.{GoneAreAbsent, OthersStay};
+ghost use Rattle.sv_plain.specs.Held.{Both, Holds};
 ghost use Rattle.sv_plain.specs.Settled.{ChangesNothing, IsAfterSwitch, IsFlushed, IsStopped, IsWritten};
 ghost use Rattle.sv_plain.specs.Store.{IsNumberedFrom, IsOpen, last_files, write_count};
 
@@ -68,7 +69,7 @@ impl Plain {
         ensures kept { OnErr result (self.new.journal ≡ self.old.journal) }
         ensures same { IfErr result (ChangesNothing self.old self.new) }
         ensures moment { IfErr result (WriteMoment self.new) }
-        ensures after { After self.old self.new }
+        ensures after { Follows self.old self.new }
         ensures open { IsOpen self.new }
         ensures alone { IsAlone self.new }
         ensures own { All (λ w. w.family ≡ 0) self.new.journal }
@@ -112,7 +113,7 @@ impl Plain {
         ensures stopped { IfErr result (IsStopped self.old self.new) }
         ensures moment { IfErr result (FlushMoment self.new) }
         ensures journal { self.new.journal ≡ self.old.journal }
-        ensures after { After self.old self.new }
+        ensures after { Follows self.old self.new }
         ensures open { IsOpen self.new }
         ensures alone { IsAlone self.new }
         ensures own { All (λ w. w.family ≡ 0) self.new.journal }
@@ -133,7 +134,7 @@ impl Plain {
         ensures closed { IsClosed self.new }
         ensures journal { self.new.journal ≡ self.old.journal }
         ensures versions { self.new.versions ≡ self.old.versions }
-        ensures after { After self.old self.new }
+        ensures after { Follows self.old self.new }
         ensures numbered { (first : ℕ) → IsNumberedFrom first self.old → IsNumberedFrom first self.new }
         ensures end { EndsAs result self.new (D.faults dir.old) (D.faults dir.new) }
         ensures later { D.faults dir.old ≤ D.faults dir.new }

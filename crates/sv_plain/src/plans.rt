@@ -1,7 +1,7 @@
 // The start of a flush: what it may meet, the switch, and the number of its file.
-ghost use Rattle.std.specs.Prelude.{◌≡◌, ◌+◌, ◌<◌, ◌^◌, ◌∷◌, [], None, Some, cond, IfOk, IfErr, OnOk, OnErr, false};
+ghost use Rattle.std.specs.Prelude.{◌≡◌, ◌+◌, ◌<◌, ◌^◌, ◌∷◌, [], None, Some, cond, IfOk, IfErr, OnOk, OnErr};
 ghost use Rattle.sv_model.specs.declared.Refusal.TheVariants.{RegisterFull};
-ghost use Rattle.sv_model.specs.After.{After};
+ghost use Rattle.sv_plain.specs.Follows.{Follows};
 ghost use Rattle.sv_model.specs.Refusals.{RefusesExactly, first_due};
 ghost use Rattle.sv_cells.specs.Calls.{memtables_fault};
 ghost use Rattle.sv_files.specs.Calls.{capture_fault};
@@ -11,20 +11,21 @@ ghost use Rattle.sv_plain.specs.Prepared.{Began, IsMemory, Prepared};
 ghost use Rattle.sv_plain.specs.Settled.{IsStopped};
 ghost use Rattle.sv_plain.specs.Store.{active_rows, immutable_count};
 ghost use Rattle.sv_plain.specs.Views.{Runs, books_of};
+ghost use Rattle.sv_model.specs.Flat.{plain};
 
 use crate::parts::Parts;
-use sv_model::{FamilyId, FileMeta, FileNumber, Refusal};
+use sv_model::{Bottom, FamilyId, FileMeta, FileNumber, Refusal};
 
 // The file of this number with the writes from `from + 1` to `to`. A flush never leaves deletes out.
 fn file_over(number: u64, from: u64, to: u64) -> FileMeta
-    ensures is { result ≡ record { number = number; from = from; to = to; bottom = false } }
+    ensures is { result ≡ record { number = number; from = from; to = to; bottom = plain } }
     ensures fits { result.number < 2 ^ 64 }
 {
     FileMeta {
         number: FileNumber(number),
         from,
         to,
-        bottom: false,
+        bottom: Bottom::plain(),
     }
 }
 
@@ -81,7 +82,7 @@ impl Parts {
         ensures versions { self.new.versions ≡ self.old.versions }
         ensures metas { self.new.metas.items ≡ self.old.metas.items }
         ensures memory { IfErr result IsMemory }
-        ensures after { After (books_of self.old) (books_of self.new) }
+        ensures after { Follows (books_of self.old) (books_of self.new) }
         ensures empty { OnOk result (active_rows (books_of self.new) ≡ 0) }
         ensures waits { OnOk result (0 < immutable_count (books_of self.new)) }
         ensures counted { OnOk result (immutable_count (books_of self.new) ≡ immutable_count (books_of self.old) + cond (has_rows (books_of self.old)) 1 0) }
@@ -105,13 +106,13 @@ impl Parts {
         ensures kept { OnErr result (books_of self.new ≡ books_of self.old) }
         ensures journal { self.new.journal ≡ self.old.journal }
         ensures versions { self.new.versions ≡ self.old.versions }
-        ensures after { After (books_of self.old) (books_of self.new) }
+        ensures after { Follows (books_of self.old) (books_of self.new) }
         ensures runs { OnErr result (Runs self.new) }
     {
         let Ok(()) = self.metas.reserve(1) else {
             return Err(Refusal::OutOfMemory);
         };
-        let _ = self.files.next();
+        self.files.laws();
         let number = self.files.capture(FamilyId(0))?.0;
         let (from, to) = (self.reach, self.base);
         self.metas.push_reserved(file_over(number, from, to));
@@ -129,7 +130,7 @@ impl Parts {
         ensures moment { IfErr result (FlushMoment (books_of self.new)) }
         ensures journal { self.new.journal ≡ self.old.journal }
         ensures files { OnErr result (self.new.files ≡ self.old.files) }
-        ensures after { OnErr result (After (books_of self.old) (books_of self.new)) }
+        ensures after { OnErr result (Follows (books_of self.old) (books_of self.new)) }
         ensures runs { OnErr result (Runs self.new) }
     {
         match self.plan_flush() {
@@ -148,7 +149,7 @@ impl Parts {
         ensures journal { self.new.journal ≡ self.old.journal }
         ensures versions { OnErr result (self.new.versions ≡ self.old.versions) }
         ensures files { OnErr result (self.new.files ≡ self.old.files) }
-        ensures after { OnErr result (After (books_of self.old) (books_of self.new)) }
+        ensures after { OnErr result (Follows (books_of self.old) (books_of self.new)) }
         ensures runs { OnErr result (Runs self.new) }
     {
         self.switch_rows()?;

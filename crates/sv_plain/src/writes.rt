@@ -1,6 +1,6 @@
 // Writes: a put or a delete of the lane.
 ghost use Rattle.std.specs.Prelude.{◌≡◌, ◌<◌, ◌∷◌, [], false, true, IfOk, IfErr, OnOk, OnErr, length};
-ghost use Rattle.sv_model.specs.After.{After};
+ghost use Rattle.sv_plain.specs.Follows.{Follows};
 ghost use Rattle.sv_model.specs.Refusals.{Refuses, first_due};
 ghost use Rattle.sv_cells.specs.Calls.{memtables_fault};
 ghost use Rattle.sv_registry.specs.Calls.{make_fault};
@@ -26,7 +26,7 @@ impl Parts {
         ensures files { self.new.files ≡ self.old.files }
         ensures versions { self.new.versions ≡ self.old.versions }
         ensures moment { IfErr result (WriteMoment (books_of self.new)) }
-        ensures after { After (books_of self.old) (books_of self.new) }
+        ensures after { Follows (books_of self.old) (books_of self.new) }
         ensures runs { Runs self.new }
     {
         if !self.is_due() {
@@ -49,7 +49,7 @@ impl Parts {
         ensures written { IfOk result (λ _. IsWritten (books_of self.old) (books_of self.new) key op) }
         ensures added { IfOk result (λ _. books_of self.new ≡ record (books_of self.old) { journal = (books_of self.new).journal }) }
         ensures kept { OnErr result (books_of self.new ≡ books_of self.old) }
-        ensures after { After (books_of self.old) (books_of self.new) }
+        ensures after { Follows (books_of self.old) (books_of self.new) }
         ensures runs { Runs self.new }
     {
         self.journal.reserve(1)?;
@@ -77,7 +77,7 @@ impl Parts {
         ensures kept { OnErr result (self.new.journal.items ≡ self.old.journal.items) }
         ensures same { IfErr result (ChangesNothing (books_of self.old) (books_of self.new)) }
         ensures moment { IfErr result (WriteMoment (books_of self.new)) }
-        ensures after { After (books_of self.old) (books_of self.new) }
+        ensures after { Follows (books_of self.old) (books_of self.new) }
         ensures runs { Runs self.new }
         ensures files { self.new.files ≡ self.old.files }
         ensures versions { self.new.versions ≡ self.old.versions }

@@ -4,11 +4,12 @@ use Rattle.std.proofs.lemmas.List.{append-nil}
 use Rattle.sv_model.specs.declared.SuperVersion.{SuperVersion}
 use Rattle.sv_model.specs.Registers.{GoesOn, Has}
 use Rattle.sv_model.specs.Books.{Books}
-use Rattle.sv_model.specs.After.{After, Continues, KeepsSuper, KeepsMemtable, KeepsList, KeepsVersion, KeepsNumber, KeepsFamily}
+use Rattle.sv_plain.specs.Follows.{Follows}
+use Rattle.sv_model.specs.After.{Continues, KeepsSuper, KeepsMemtable, KeepsList, KeepsVersion, KeepsNumber, KeepsFamily}
 use Rattle.sv_model.proofs.Registers.{goes-same, goes-on}
 use Rattle.sv_run.proofs.Lasting.{has-later}
 
-pub after-same : (a : Books) → After a a
+pub after-same : (a : Books) → Follows a a
 after-same a = record {
   journal = ([], sym (append-nil a.journal));
   supers = goes-same KeepsSuper a.supers (λ x. record { descriptor = refl; place = refl; gone = λ h. h });
@@ -29,7 +30,7 @@ family_kept : (family : ℕ) (a b : List SuperVersion) → GoesOn KeepsSuper a b
 family_kept family a b g h =
     has-later KeepsSuper (λ s. s.descriptor.family ≡ family) (λ s. s.descriptor.family ≡ family) (λ x y kept is. ap (λ d. d.family) kept.descriptor ∙ is) a b g h
 
-pub after-on : (a b c : Books) → After a b → After b c → After a c
+pub after-on : (a b c : Books) → Follows a b → Follows b c → Follows a c
 after-on a b c f g = record {
   journal = continues-on a.journal b.journal c.journal f.journal g.journal;
   supers = goes-on KeepsSuper a.supers b.supers c.supers (λ x y z p q. record { descriptor = q.descriptor ∙ p.descriptor; place = q.place ∙ p.place; gone = λ h. q.gone (p.gone h) }) f.supers g.supers;

@@ -9,11 +9,13 @@ use Rattle.sv_model.specs.Journal.{of_family}
 use Rattle.sv_model.specs.Ranges.{reach_of, reach_from}
 use Rattle.sv_model.specs.Registers.{GoesOn}
 use Rattle.sv_model.specs.Books.{Books, FileRegister, files_of}
-use Rattle.sv_model.specs.After.{After, KeepsNumber}
+use Rattle.sv_plain.specs.Follows.{Follows}
+use Rattle.sv_model.specs.After.{KeepsNumber}
 use Rattle.sv_model.specs.Faults.{RoseBy}
 use Rattle.sv_model.specs.Files.{Files, file_name}
 use Rattle.sv_script.specs.Answered.{Answered}
-use Rattle.sv_plain.specs.Held.{Both, Holds, OthersStay}
+use Rattle.sv_model.specs.HeldFiles.{OthersStay}
+use Rattle.sv_plain.specs.Held.{Both, Holds}
 use Rattle.sv_plain.specs.Store.{IsNumberedFrom, IsOpen, last_files, top_of, write_count}
 use Rattle.sv_run.specs.Steps.{Knows}
 use Rattle.sv_run.proofs.Lasting.{goes_on-length, count-later}
@@ -92,13 +94,13 @@ reach_of-push files file = reach_from-push 0 files file
 one_top : (x y : Top) → Some x ≡ Some y → x ≡ y
 one_top x y e = cc
 
-pub reach-later : (a b : Books) → IsOpen a → IsOpen b → After a b → reach_of (last_files a) ≤ reach_of (last_files b)
+pub reach-later : (a b : Books) → IsOpen a → IsOpen b → Follows a b → reach_of (last_files a) ≤ reach_of (last_files b)
 reach-later a b opened still after =
     let kept = after.tops 0 (top_of true a) (ap (λ z. slice_get z 0) opened) in
     let same : kept.0 ≡ top_of true b = one_top kept.0 (top_of true b) (sym kept.1 ∙ ap (λ z. slice_get z 0) still) in
     subst (λ (t : Top). reach_of (last_files a) ≤ reach_of (files_of b.versions t.last)) same kept.2.reach
 
-pub knows-later : (a b : Books) (earlier : List Answered) → IsOpen a → IsOpen b → After a b → Knows a earlier → Knows b earlier
+pub knows-later : (a b : Books) (earlier : List Answered) → IsOpen a → IsOpen b → Follows a b → Knows a earlier → Knows b earlier
 knows-later a b earlier opened still after h = record {
   writes = omega (arith, h.writes, count-later a.journal b.journal 0 after.journal);
   serial = omega (arith, h.serial, goes_on-length _ a.supers b.supers after.supers);

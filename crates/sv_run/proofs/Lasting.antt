@@ -14,7 +14,8 @@ use Rattle.sv_model.specs.Journal.{of_family, borne_by, look, rows_of, newest_op
 use Rattle.sv_model.specs.Lists.{In}
 use Rattle.sv_model.specs.Registers.{entry, GoesOn, Has}
 use Rattle.sv_model.specs.Books.{Books, end_of}
-use Rattle.sv_model.specs.After.{After, Continues, KeepsMemtable, KeepsNumber}
+use Rattle.sv_plain.specs.Follows.{Follows}
+use Rattle.sv_model.specs.After.{Continues, KeepsMemtable, KeepsNumber}
 use Rattle.sv_model.specs.Reads.{IsWrite, IsWrittenAt, Serves, LooksAt, IsCapturedFor, IsOutput}
 use Rattle.sv_model.specs.Moments.{BeginsFrom, WasStalled, WasFlushed, WereManyMemtables, WereManyLive, WereAllMade, WereAllNumbered, WasCapturedFor}
 use Rattle.sv_model.proofs.Registers.{entry-old}
@@ -76,7 +77,7 @@ borne-later : (a b : List Write) (mem : ℕ) → Continues a b → length (borne
 borne-later a b mem more =
     omega (arith, ap (λ z. length (borne_by mem z)) more.1, ap length (filter-append (λ (w : Write). w.mem == mem) a more.0), length-append (borne_by mem a) (borne_by mem more.0))
 
-pub written-later : (a b : Books) (lane family : ℕ) (key : List ℕ) (op : Op) (n : ℕ) → After a b → IsWrittenAt a lane family key op n → IsWrittenAt b lane family key op n
+pub written-later : (a b : Books) (lane family : ℕ) (key : List ℕ) (op : Op) (n : ℕ) → Follows a b → IsWrittenAt a lane family key op n → IsWrittenAt b lane family key op n
 written-later a b lane family key op n after h =
     at (entry (of_family family a.journal) n) refl h
   where
@@ -89,7 +90,7 @@ written-later a b lane family key op n after h =
 
 -- ---- reads
 
-serves-later : (a b : Books) (family cut serial : ℕ) → After a b → IsSomeAnd (entry a.supers serial) (Serves a family cut) → IsSomeAnd (entry b.supers serial) (Serves b family cut)
+serves-later : (a b : Books) (family cut serial : ℕ) → Follows a b → IsSomeAnd (entry a.supers serial) (Serves a family cut) → IsSomeAnd (entry b.supers serial) (Serves b family cut)
 serves-later a b family cut serial after h =
     at (entry a.supers serial) refl h
   where
@@ -115,7 +116,7 @@ look-later a b family cut key more few =
     ap (take cut) (of_family-later a b family more) ∙ take-append-le cut (of_family family a) (of_family family more.0) few in
     ap (λ z. option_and_then value_of (newest_op key (rows_of z))) whole
 
-pub looks-later : (told : Bool) (a b : Books) (family : ℕ) (key : List ℕ) (found : Option (List ℕ)) (cut serial : ℕ) → After a b → cut ≤ length (of_family family a.journal) → LooksAt told a family key found cut serial → LooksAt told b family key found cut serial
+pub looks-later : (told : Bool) (a b : Books) (family : ℕ) (key : List ℕ) (found : Option (List ℕ)) (cut serial : ℕ) → Follows a b → cut ≤ length (of_family family a.journal) → LooksAt told a family key found cut serial → LooksAt told b family key found cut serial
 looks-later told a b family key found cut serial after few h = record {
   serves = serves-later a b family cut serial after h.serves;
   found_is = λ is. look-later a.journal b.journal family cut key after.journal few ∙ h.found_is is;
@@ -126,11 +127,11 @@ looks-later told a b family key found cut serial after few h = record {
 captured_keeps : (family number : ℕ) (x y : RegisteredFile) → KeepsNumber x y → IsCapturedFor family number x → IsCapturedFor family number y
 captured_keeps family number x y kept h = record { number_is = kept.number ∙ h.number_is; family_is = kept.family ∙ h.family_is }
 
-pub captured-later : (a b : Books) (family number : ℕ) → After a b → WasCapturedFor a family number → WasCapturedFor b family number
+pub captured-later : (a b : Books) (family number : ℕ) → Follows a b → WasCapturedFor a family number → WasCapturedFor b family number
 captured-later a b family number after h =
     has-later KeepsNumber (IsCapturedFor family number) (IsCapturedFor family number) (captured_keeps family number) a.files.numbers b.files.numbers after.numbers h
 
-pub output-later : (a b : Books) (family : ℕ) (file : FileMeta) → After a b → IsOutput a family file → IsOutput b family file
+pub output-later : (a b : Books) (family : ℕ) (file : FileMeta) → Follows a b → IsOutput a family file → IsOutput b family file
 output-later a b family file after h = record {
   captured = captured-later a b family file.number after h.captured;
   covers = in-later file a.metas b.metas after.metas h.covers;
@@ -142,7 +143,7 @@ output-later a b family file after h = record {
 begins_keeps : (family first less : ℕ) → less ≤ first → (x y : _) → KeepsMemtable x y → BeginsFrom family first x → BeginsFrom family less y
 begins_keeps family first less few x y kept h = record { family_is = kept.family ∙ h.family_is; from = omega (arith, kept.first, h.from, few) }
 
-pub stalled-later : (a b : Books) (family flushed less : ℕ) → After a b → less ≤ flushed → WasStalled a family flushed → WasStalled b family less
+pub stalled-later : (a b : Books) (family flushed less : ℕ) → Follows a b → less ≤ flushed → WasStalled a family flushed → WasStalled b family less
 unfolding has-later
 stalled-later a b family flushed less after few h = record {
   one = has-later KeepsMemtable (BeginsFrom family flushed) (BeginsFrom family less) (begins_keeps family flushed less few) a.memtables b.memtables after.memtables h.one;
@@ -150,7 +151,7 @@ stalled-later a b family flushed less after few h = record {
   apart = h.apart;
 }
 
-pub flushed-later : (a b : Books) (family upto less : ℕ) → After a b → less ≤ upto → WasFlushed a family upto → WasFlushed b family less
+pub flushed-later : (a b : Books) (family upto less : ℕ) → Follows a b → less ≤ upto → WasFlushed a family upto → WasFlushed b family less
 flushed-later a b family upto less after few (inl none) = inl (omega (arith, none, few))
 flushed-later a b family upto less after few (inr found) = inr (
   found.0,
@@ -161,16 +162,16 @@ flushed-later a b family upto less after few (inr found) = inr (
   },
 )
 
-pub many_memtables-later : (a b : Books) → After a b → WereManyMemtables a → WereManyMemtables b
+pub many_memtables-later : (a b : Books) → Follows a b → WereManyMemtables a → WereManyMemtables b
 many_memtables-later a b after h = omega (arith, goes_on-length _ a.memtables b.memtables after.memtables, h)
 
-pub many_live-later : (a b : Books) → After a b → WereManyLive a → WereManyLive b
+pub many_live-later : (a b : Books) → Follows a b → WereManyLive a → WereManyLive b
 many_live-later a b after h = omega (arith, goes_on-length _ a.supers b.supers after.supers, h)
 
-pub all_made-later : (a b : Books) → After a b → WereAllMade a → WereAllMade b
+pub all_made-later : (a b : Books) → Follows a b → WereAllMade a → WereAllMade b
 all_made-later a b after h = omega (arith, goes_on-length _ a.supers b.supers after.supers, h)
 
-pub all_numbered-later : (a b : Books) → After a b → WereAllNumbered a → WereAllNumbered b
+pub all_numbered-later : (a b : Books) → Follows a b → WereAllNumbered a → WereAllNumbered b
 all_numbered-later a b after (inl made) = inl (all_made-later a b after made)
 all_numbered-later a b after (inr (inl many)) =
     inr (inl (omega (arith, many, goes_on-count KeepsNumber (λ f. is_some f.family) (λ x y kept. ap is_some kept.family) a.files.numbers b.files.numbers after.numbers)))

@@ -5,15 +5,16 @@ use Rattle.sv_model.specs.declared.Refusal.{Refusal}
 use Rattle.sv_model.specs.declared.Refusal.TheVariants as refusal
 use Rattle.sv_model.specs.Faults.{RoseBy}
 use Rattle.sv_model.specs.Books.{Books}
-use Rattle.sv_model.specs.After.{After}
+use Rattle.sv_plain.specs.Follows.{Follows}
 use Rattle.sv_model.specs.Ranges.{reach_of}
 use Rattle.sv_model.specs.Files.{Files}
 use Rattle.sv_script.specs.declared.Command.TheVariants as command
 use Rattle.sv_script.specs.declared.Reply.TheVariants as reply
 use Rattle.sv_script.specs.Answered.{Answered, handle_of, seen, flushed, fault_by}
-use Rattle.sv_script.specs.ReplyLaw.{due, handle_fault, WriteMet, ReadMet, FlushMet}
+use Rattle.sv_script.specs.ReplyLaw.{due, handle_refusal, WriteMet, ReadMet, FlushMet}
 use Rattle.sv_plain.specs.Due.{WriteMoment, ReadMoment, FlushMoment, fault_of}
-use Rattle.sv_plain.specs.Held.{Holds, OthersStay}
+use Rattle.sv_model.specs.HeldFiles.{OthersStay}
+use Rattle.sv_plain.specs.Held.{Holds}
 use Rattle.sv_plain.specs.Store.{last_files, write_count}
 use Rattle.sv_run.specs.States.{State, state_of, IsReady}
 use Rattle.sv_run.specs.Steps.{Steps}
@@ -25,7 +26,7 @@ use Rattle.sv_run.proofs.Stepping.{Left, ready-left, Turned, ready-turned, ready
 
 -- ---- writes
 
-write_met : (new later : Books) (earlier : List Answered) (e : Refusal) → flushed earlier ≤ reach_of (last_files new) → After new later → WriteMoment new e → (e ≡ refusal.OutOfMemory) ⊎ WriteMet later earlier 0 e
+write_met : (new later : Books) (earlier : List Answered) (e : Refusal) → flushed earlier ≤ reach_of (last_files new) → Follows new later → WriteMoment new e → (e ≡ refusal.OutOfMemory) ⊎ WriteMet later earlier 0 e
 write_met new later earlier refusal.Stalled far after m = inr (stalled-later new later 0 (reach_of (last_files new)) (flushed earlier) after far m)
 write_met new later earlier refusal.TooManyMemtables far after m = inr (many_memtables-later new later after m)
 write_met new later earlier refusal.RegisterFull far after m = inr (all_made-later new later after m)
@@ -34,7 +35,7 @@ write_met new later earlier refusal.OutOfMemory far after m = inl refl
 write_met new later earlier e far after m = absurd m
 
 -- a moment of the family 0 is one of the family that the lane has a handle of
-met_through : (earlier : List Answered) (family : List ℕ) (e : Refusal) (P : ℕ → Type 0) → handle_fault (handle_of earlier family) ≡ None → (e ≡ refusal.OutOfMemory) ⊎ P 0 → (e ≡ refusal.OutOfMemory) ⊎ IsSomeAnd (handle_of earlier family) P
+met_through : (earlier : List Answered) (family : List ℕ) (e : Refusal) (P : ℕ → Type 0) → handle_refusal (handle_of earlier family) ≡ None → (e ≡ refusal.OutOfMemory) ⊎ P 0 → (e ≡ refusal.OutOfMemory) ⊎ IsSomeAnd (handle_of earlier family) P
 met_through earlier family e P h (inl is) = inl is
 met_through earlier family e P h (inr p) = inr (through earlier family P h p)
 
@@ -74,7 +75,7 @@ same_fault T e = refl
 rose_same : (T : Type 0) (e : Refusal) (before now : ℕ) → RoseBy (fault_of {T = T} (Err e)) before now → RoseBy (fault_by (reply.Refused e)) before now
 rose_same T e before now rose = subst (λ n. RoseBy n before now) (same_fault T e) rose
 
-read_met : (told : Bool) (now later : Books) (e : Refusal) → After now later → ReadMoment told now e → (e ≡ refusal.OutOfMemory) ⊎ ReadMet told later 0 e
+read_met : (told : Bool) (now later : Books) (e : Refusal) → Follows now later → ReadMoment told now e → (e ≡ refusal.OutOfMemory) ⊎ ReadMet told later 0 e
 read_met told now later (refusal.DirFault number) after m = inr (captured-later now later 0 number after m)
 read_met told now later (refusal.BadFile number place) after m = inr (m.0, captured-later now later 0 number after m.1)
 read_met told now later refusal.OutOfMemory after m = inl refl
@@ -96,7 +97,7 @@ get_met T s files faults family key e ready none told untold same later rose =
     (met_through earlier family e (λ f. ReadMet (is_some s.files) then f e) (key_due family key none)
     (read_met (is_some s.files) s.books then e after (moment_told s.books e s.files told untold ready.held))))
 
-flush_met_by : (new later : Books) (earlier : List Answered) (e : Refusal) → seen earlier ≤ write_count new → After new later → FlushMoment new e → (e ≡ refusal.OutOfMemory) ⊎ FlushMet later earlier 0 e
+flush_met_by : (new later : Books) (earlier : List Answered) (e : Refusal) → seen earlier ≤ write_count new → Follows new later → FlushMoment new e → (e ≡ refusal.OutOfMemory) ⊎ FlushMet later earlier 0 e
 flush_met_by new later earlier refusal.NothingToFlush far after m = inr (flushed-later new later 0 (write_count new) (seen earlier) after far m)
 flush_met_by new later earlier refusal.RegisterFull far after m = inr (all_numbered-later new later after m)
 flush_met_by new later earlier refusal.TooManyMemtables far after m = inr (many_memtables-later new later after m)

@@ -8,14 +8,14 @@ use Rattle.sv_model.specs.declared.Refusal.TheVariants as refusal
 use Rattle.sv_model.specs.Faults.{RoseBy}
 use Rattle.sv_model.specs.Journal.{change_of}
 use Rattle.sv_model.specs.Books.{Books}
-use Rattle.sv_model.specs.After.{After}
+use Rattle.sv_plain.specs.Follows.{Follows}
 use Rattle.sv_model.specs.Refusals.{IsDue, first_due, key_fault, value_fault}
 use Rattle.sv_script.specs.declared.Command.{Command}
 use Rattle.sv_script.specs.declared.Command.TheVariants as command
 use Rattle.sv_script.specs.declared.Reply.TheVariants as reply
 use Rattle.sv_script.specs.Answered.{Answered, handle_of, change_asked, fault_by}
-use Rattle.sv_script.specs.ReplyLaw.{due, handle_fault, Refused, Met, ReplyFits}
-use Rattle.sv_plain.specs.Held.{OthersStay}
+use Rattle.sv_script.specs.ReplyLaw.{due, handle_refusal, Refused, Met, ReplyFits}
+use Rattle.sv_model.specs.HeldFiles.{OthersStay}
 use Rattle.sv_plain.specs.Store.{IsNumberedFrom}
 use Rattle.sv_run.specs.States.{State, IsReady, LeavesOthers}
 use Rattle.sv_run.specs.Steps.{Knows, Steps}
@@ -31,9 +31,9 @@ asks_none (command.Delete family key) e = refl
 asks_none c e = refl
 
 -- a refused command, whatever was done before the refusal
-pub refused_steps : (old new : State) (c : Command) (e : Refusal) → IsReady new → After old.books new.books → new.books.journal ≡ old.books.journal
+pub refused_steps : (old new : State) (c : Command) (e : Refusal) → IsReady new → Follows old.books new.books → new.books.journal ≡ old.books.journal
     → ((first : ℕ) → IsNumberedFrom first old.books → IsNumberedFrom first new.books) → LeavesOthers new.books old.files new.files → old.faults ≤ new.faults → RoseBy (fault_by (reply.Refused e)) old.faults new.faults
-    → ((earlier : List Answered) → Knows old.books earlier → (later : Books) → After new.books later → ReplyFits (is_some old.files) later 0 earlier c (reply.Refused e))
+    → ((earlier : List Answered) → Knows old.books earlier → (later : Books) → Follows new.books later → ReplyFits (is_some old.files) later 0 earlier c (reply.Refused e))
     → Steps old new c (reply.Refused e)
 refused_steps old new c e ready after journal numbered others later faults fits = record {
   ready = ready;
@@ -85,20 +85,20 @@ calm_first : (d : Option Refusal) (ds : List (Option Refusal)) → faults_due d 
 calm_first None ds here rest = rest
 calm_first (Some e) ds here rest = here
 
-calm_handle : (family : Option ℕ) → faults_due (handle_fault family) ≡ 0
+calm_handle : (family : Option ℕ) → faults_due (handle_refusal family) ≡ 0
 calm_handle None = refl
 calm_handle (Some family) = refl
 
-calm_family : (family : List ℕ) → faults_due (first_due (handle_fault (handle_of [] family) ∷ [])) ≡ 0
-calm_family family = calm_first (handle_fault (handle_of [] family)) [] (calm_handle (handle_of [] family)) refl
+calm_family : (family : List ℕ) → faults_due (first_due (handle_refusal (handle_of [] family) ∷ [])) ≡ 0
+calm_family family = calm_first (handle_refusal (handle_of [] family)) [] (calm_handle (handle_of [] family)) refl
 
-calm_key : (family key : List ℕ) → faults_due (first_due (key_fault (length key) ∷ handle_fault (handle_of [] family) ∷ [])) ≡ 0
-calm_key family key = calm_first (key_fault (length key)) (handle_fault (handle_of [] family) ∷ []) (calm_cond _ (refusal.KeyLength (length key)) refl) (calm_family family)
+calm_key : (family key : List ℕ) → faults_due (first_due (key_fault (length key) ∷ handle_refusal (handle_of [] family) ∷ [])) ≡ 0
+calm_key family key = calm_first (key_fault (length key)) (handle_refusal (handle_of [] family) ∷ []) (calm_cond _ (refusal.KeyLength (length key)) refl) (calm_family family)
 
 calm_put : (family key value : List ℕ) → faults_due (due [] (command.Put family key value)) ≡ 0
 calm_put family key value =
-    calm_first (key_fault (length key)) (value_fault (length value) ∷ handle_fault (handle_of [] family) ∷ []) (calm_cond _ (refusal.KeyLength (length key)) refl)
-    (calm_first (value_fault (length value)) (handle_fault (handle_of [] family) ∷ []) (calm_cond _ (refusal.ValueLength (length value)) refl) (calm_family family))
+    calm_first (key_fault (length key)) (value_fault (length value) ∷ handle_refusal (handle_of [] family) ∷ []) (calm_cond _ (refusal.KeyLength (length key)) refl)
+    (calm_first (value_fault (length value)) (handle_refusal (handle_of [] family) ∷ []) (calm_cond _ (refusal.ValueLength (length value)) refl) (calm_family family))
 
 pub put_refused : (s : State) (family key value : List ℕ) (e : Refusal) → IsReady s → IsDue (due [] (command.Put family key value)) e → Steps s s (command.Put family key value) (reply.Refused e)
 put_refused s family key value e ready is = due_steps s (command.Put family key value) e ready (calm_put family key value) is (λ earlier. refl)
@@ -118,10 +118,10 @@ flush_refused s family e ready is = due_steps s (command.Flush family) e ready (
 abbrev is_default : List ℕ → Bool
 is_default family = pointwise nat_eq family (codes "default")
 
-handled : (b : Bool) → handle_fault (cond b (Some 0) None) ≡ None → b ≡ true
+handled : (b : Bool) → handle_refusal (cond b (Some 0) None) ≡ None → b ≡ true
 handled true h = refl
 handled false h = absurd (cc)
 
 -- what is so of the family 0 is so of the one that the lane has a handle of
-pub through : (earlier : List Answered) (family : List ℕ) (P : ℕ → Type 0) → handle_fault (handle_of earlier family) ≡ None → P 0 → IsSomeAnd (handle_of earlier family) P
+pub through : (earlier : List Answered) (family : List ℕ) (P : ℕ → Type 0) → handle_refusal (handle_of earlier family) ≡ None → P 0 → IsSomeAnd (handle_of earlier family) P
 through earlier family P h p = subst (λ b. IsSomeAnd (cond b (Some 0) None) P) (sym (handled (is_default family) h)) p

@@ -7,14 +7,15 @@ use Rattle.sv_model.specs.Faults.{RoseBy}
 use Rattle.sv_model.specs.Journal.{change_of}
 use Rattle.sv_model.specs.Summaries.{obsolete_of}
 use Rattle.sv_model.specs.Books.{Books}
-use Rattle.sv_model.specs.After.{After}
+use Rattle.sv_plain.specs.Follows.{Follows}
 use Rattle.sv_model.specs.Files.{Files}
 use Rattle.sv_script.specs.declared.Script.{Script}
 use Rattle.sv_script.specs.declared.Reply.{Reply}
 use Rattle.sv_script.specs.declared.LaneReport.{LaneReport}
-use Rattle.sv_script.specs.Answered.{answered, faults_told}
+use Rattle.sv_script.specs.Answered.{answered, dir_faults}
 use Rattle.sv_plain.specs.Closed.{EndsAs, IsClosed}
-use Rattle.sv_plain.specs.Held.{Both, GoneAreAbsent, Holds, OthersStay}
+use Rattle.sv_model.specs.HeldFiles.{GoneAreAbsent, OthersStay}
+use Rattle.sv_plain.specs.Held.{Both, Holds}
 use Rattle.sv_plain.specs.Store.{IsNumberedFrom}
 use Rattle.sv_run.specs.declared.outcomes.Done.{Done}
 use Rattle.sv_run.specs.Ends.{HasRun, LeavesFiles, faults_at_close}
@@ -44,7 +45,7 @@ rose_at_close end.OutOfMemory b before now h later = omega arith
 pub record Closes (now closed : Books) (files later : Option Files) : Type 0 where
   pub is : IsClosed closed
   pub journal : closed.journal ≡ now.journal
-  pub after : After now closed
+  pub after : Follows now closed
   pub numbered : (first : ℕ) → IsNumberedFrom first now → IsNumberedFrom first closed
   pub holds : Both (λ before after. Holds now before → Holds closed after) files later
   pub others : LeavesOthers closed files later
@@ -84,7 +85,7 @@ has_run start now closed later faults first ended script replies lanes played ne
         closed = c.is;
         clean = clean_is ended closed now.faults faults ends;
         files = leaves_files now.books closed first start.files now.files later c told.others told.ready.held above numbered;
-        faults = rose-on (faults_told (answered script.lines replies)) (faults_at_close ended (obsolete_of closed.files.numbers)) start.faults now.faults faults told.faults (rose_at_close ended closed now.faults faults ends more);
+        faults = rose-on (dir_faults (answered script.lines replies)) (faults_at_close ended (obsolete_of closed.files.numbers)) start.faults now.faults faults told.faults (rose_at_close ended closed now.faults faults ends more);
       };
     }
 

@@ -12,7 +12,7 @@ use Rattle.sv_model.specs.Journal.{Change, change_of, of_family, look}
 use Rattle.sv_model.specs.Ranges.{reach_of}
 use Rattle.sv_model.specs.Registers.{entry}
 use Rattle.sv_model.specs.Books.{Books}
-use Rattle.sv_model.specs.After.{After}
+use Rattle.sv_plain.specs.Follows.{Follows}
 use Rattle.sv_model.specs.Reads.{IsWrite, Serves, IsOutput}
 use Rattle.sv_model.specs.Refusals.{first_due, key_fault, value_fault}
 use Rattle.sv_model.proofs.Refusing.{none_due}
@@ -21,8 +21,9 @@ use Rattle.sv_model.specs.Files.{Files}
 use Rattle.sv_script.specs.declared.Command.TheVariants as command
 use Rattle.sv_script.specs.declared.Reply.TheVariants as reply
 use Rattle.sv_script.specs.Answered.{Answered, handle_of}
-use Rattle.sv_script.specs.ReplyLaw.{due, handle_fault, Writes, Gets, Flushes}
-use Rattle.sv_plain.specs.Held.{Both, Holds, OthersStay}
+use Rattle.sv_script.specs.ReplyLaw.{due, handle_refusal, Writes, Gets, Flushes}
+use Rattle.sv_model.specs.HeldFiles.{OthersStay}
+use Rattle.sv_plain.specs.Held.{Both, Holds}
 use Rattle.sv_plain.specs.Settled.{IsWritten, IsFlushed}
 use Rattle.sv_plain.specs.Store.{IsOpen, IsNumberedFrom, last_files, write_count}
 use Rattle.sv_run.specs.States.{State, state_of, IsReady, LeavesOthers}
@@ -31,12 +32,13 @@ use Rattle.sv_run.proofs.Following.{after-same}
 use Rattle.sv_run.proofs.Keeping.{both-same, held-on, others-same, write_count-own, numbered-same, reach_of-push, rose-none}
 use Rattle.sv_run.proofs.Lasting.{written-later, looks-later, output-later}
 use Rattle.sv_run.proofs.Refusing.{through}
+use Rattle.sv_model.specs.Flat.{plain}
 
 -- ---- writes
 
 -- what a write leaves, accepted or not
 pub record Left (old new : Books) : Type 0 where
-  pub after : After old new
+  pub after : Follows old new
   pub opened : IsOpen new
   pub own : All (λ w. w.family ≡ 0) new.journal
   pub files : new.files ≡ old.files
@@ -59,7 +61,7 @@ written_last old new key o h =
 grown : (old new : Books) (key : List ℕ) (o : Op) → IsWritten old new key o → write_count new ≡ write_count old + 1
 grown old new key o h = ap length (written_last old new key o h) ∙ length_push (of_family 0 old.journal) h.it
 
-writes : (old new later : Books) (earlier : List Answered) (key : List ℕ) (o : Op) (n : ℕ) → IsWritten old new key o → n ≡ write_count new → Knows old earlier → After new later → Writes later 0 earlier key o n 0
+writes : (old new later : Books) (earlier : List Answered) (key : List ℕ) (o : Op) (n : ℕ) → IsWritten old new key o → n ≡ write_count new → Knows old earlier → Follows new later → Writes later 0 earlier key o n 0
 writes old new later earlier key o n h number knows after =
     let count = grown old new key o h in
     let there : entry (of_family 0 new.journal) n ≡ Some h.it =
@@ -80,17 +82,17 @@ changed old new key o h =
 pub kept_others : (s : State) (new : Books) → LeavesOthers new s.files s.files
 kept_others s new = both-same (OthersStay new.files.numbers) (others-same new.files.numbers) s.files s.files refl
 
-pub handle_due : (family : List ℕ) → first_due (handle_fault (handle_of [] family) ∷ []) ≡ None → handle_fault (handle_of [] family) ≡ None
-handle_due family none = (none_due (handle_fault (handle_of [] family)) [] none).0
+pub handle_due : (family : List ℕ) → first_due (handle_refusal (handle_of [] family) ∷ []) ≡ None → handle_refusal (handle_of [] family) ≡ None
+handle_due family none = (none_due (handle_refusal (handle_of [] family)) [] none).0
 
-pub key_due : (family key : List ℕ) → first_due (key_fault (length key) ∷ handle_fault (handle_of [] family) ∷ []) ≡ None → handle_fault (handle_of [] family) ≡ None
-key_due family key none = handle_due family (none_due (key_fault (length key)) (handle_fault (handle_of [] family) ∷ []) none).1
+pub key_due : (family key : List ℕ) → first_due (key_fault (length key) ∷ handle_refusal (handle_of [] family) ∷ []) ≡ None → handle_refusal (handle_of [] family) ≡ None
+key_due family key none = handle_due family (none_due (key_fault (length key)) (handle_refusal (handle_of [] family) ∷ []) none).1
 
-pub put_due : (family key value : List ℕ) → due [] (command.Put family key value) ≡ None → handle_fault (handle_of [] family) ≡ None
+pub put_due : (family key value : List ℕ) → due [] (command.Put family key value) ≡ None → handle_refusal (handle_of [] family) ≡ None
 put_due family key value none =
     handle_due family
-    (none_due (value_fault (length value)) (handle_fault (handle_of [] family) ∷ [])
-    (none_due (key_fault (length key)) (value_fault (length value) ∷ handle_fault (handle_of [] family) ∷ []) none).1).1
+    (none_due (value_fault (length value)) (handle_refusal (handle_of [] family) ∷ [])
+    (none_due (key_fault (length key)) (value_fault (length value) ∷ handle_refusal (handle_of [] family) ∷ []) none).1).1
 
 pub put_steps : (s : State) (new : Books) (family key value : List ℕ) (n : ℕ) → IsReady s → due [] (command.Put family key value) ≡ None → Left s.books new → IsWritten s.books new key (op.Put value) → n ≡ write_count new → Steps s (state_of new s.files s.faults) (command.Put family key value) (reply.Put n)
 put_steps s new family key value n ready none left is number =
@@ -146,7 +148,7 @@ told_files : (o : Option Files) → is_some o ≡ true → (files : Files) × (o
 told_files None e = absurd (cc)
 told_files (Some files) e = (files, refl)
 
-gets : (s : State) (later : Books) (earlier : List Answered) (key : List ℕ) (value : Option (List ℕ)) (cut serial : ℕ) → IsReady s → Found s key value cut serial → Knows s.books earlier → After s.books later → Gets (is_some s.files) later earlier key value cut serial 0
+gets : (s : State) (later : Books) (earlier : List Answered) (key : List ℕ) (value : Option (List ℕ)) (cut serial : ℕ) → IsReady s → Found s key value cut serial → Knows s.books earlier → Follows s.books later → Gets (is_some s.files) later earlier key value cut serial 0
 gets s later earlier key value cut serial ready h knows after = record {
   later = omega (arith, h.cut_is, knows.writes);
   newer = omega (arith, h.serial_is, knows.serial);
@@ -190,7 +192,7 @@ get_steps s files faults family key None cut serial ready none h same later rose
 
 -- what a flush leaves, refused or not
 pub record Turned (old new : State) : Type 0 where
-  pub after : After old.books new.books
+  pub after : Follows old.books new.books
   pub journal : new.books.journal ≡ old.books.journal
   pub opened : IsOpen new.books
   pub own : All (λ w. w.family ≡ 0) new.books.journal
@@ -206,14 +208,15 @@ ready-turned old new ready h = record {
   held = held-on old.books new.books old.files new.files h.holds ready.held;
 }
 
-file_is : (file : FileMeta) → file.bottom ≡ false → file ≡ record { number = file.number; from = file.from; to = file.to; bottom = false }
+file_is : (file : FileMeta) → file.bottom ≡ plain → file ≡ record { number = file.number; from = file.from; to = file.to; bottom = plain }
 file_is file above = λ i. record { number = file.number; from = file.from; to = file.to; bottom = above i }
 
-flushes : (old new later : Books) (earlier : List Answered) (file : FileMeta) → IsFlushed old new file → new.journal ≡ old.journal → Knows old earlier → After new later → Flushes later earlier file.number file.from file.to 0
+flushes : (old new later : Books) (earlier : List Answered) (file : FileMeta) → IsFlushed old new file → new.journal ≡ old.journal → Knows old earlier → Follows new later → Flushes later earlier file.number file.from file.to 0
 flushes old new later earlier file h journal knows after = record {
   range = h.some;
   later = omega (arith, h.all, ap (λ z. length (of_family 0 z)) journal, knows.writes);
   newer = omega (arith, h.number, knows.file);
+  cuts = [];
   output = subst (λ z. IsOutput later 0 z) (file_is file h.above) (output-later new later 0 file after h.output);
 }
 

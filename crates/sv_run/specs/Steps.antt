@@ -3,7 +3,7 @@ use Rattle.std.specs.Prelude.{◌≡◌, ◌<◌, ◌≤◌, ◌++◌, ℕ, List
 use Rattle.sv_model.specs.Journal.{change_of}
 use Rattle.sv_model.specs.Ranges.{reach_of}
 use Rattle.sv_model.specs.Books.{Books}
-use Rattle.sv_model.specs.After.{After}
+use Rattle.sv_plain.specs.Follows.{Follows}
 use Rattle.sv_model.specs.Faults.{RoseBy}
 use Rattle.sv_script.specs.declared.Command.{Command}
 use Rattle.sv_script.specs.declared.Reply.{Reply}
@@ -31,7 +31,7 @@ pub record IsShown (books : Books) (r : Reply) : Type 0 where
 -- so far as it knew of these books.
 pub record Steps (old new : State) (command : Command) (r : Reply) : Type 0 where
   pub ready : IsReady new
-  pub after : After old.books new.books
+  pub after : Follows old.books new.books
   pub journal : map change_of new.books.journal ≡ map change_of old.books.journal ++ change_asked command r
   pub numbered : (first : ℕ) → IsNumberedFrom first old.books → IsNumberedFrom first new.books
   pub others : LeavesOthers new.books old.files new.files
@@ -39,7 +39,7 @@ pub record Steps (old new : State) (command : Command) (r : Reply) : Type 0 wher
   pub faults : RoseBy (fault_by r) old.faults new.faults
   pub shown : IsShown new.books r
   pub cut : CutIs (length old.books.journal) r
-  pub fits : (earlier : List Answered) → Knows old.books earlier → (later : Books) → After new.books later → ReplyFits (is_some old.files) later 0 earlier command r
+  pub fits : (earlier : List Answered) → Knows old.books earlier → (later : Books) → Follows new.books later → ReplyFits (is_some old.files) later 0 earlier command r
 
 -- the reply to a get that found this
 abbrev pub get_reply : Option (List ℕ) → ℕ → ℕ → Reply

@@ -1,6 +1,5 @@
-pub mod Digits
-pub mod ItemTexts
-pub mod Lines
-pub mod ScriptLines
-pub mod Units
-pub mod UnitsRead
+pub mod ItemLemmas
+pub mod NumberLemmas
+pub mod ProgressLemmas
+pub mod UnitLemmas
+pub mod WellFormedLemmas

@@ -1,7 +1,7 @@
 -- What the earlier replies of a lane tell: which writes were accepted, and how far the lane has seen.
-use Rattle.std.specs.Prelude.{ℕ, cond, nat_eq, max, List, [], ◌∷◌, Option, Some, None, codes}
+use Rattle.std.specs.Prelude.{ℕ, if◌then◌else◌, max, List, [], ◌∷◌, Option, Some, None, codes}
 use Rattle.std.specs.List.{flat_map}
-use Rattle.std.specs.Cmp.Lexicographic.{pointwise}
+use Rattle.std.specs.Str.{bytes_eq}
 use Rattle.sv_model.specs.declared.Op.TheVariants as op
 use Rattle.sv_model.specs.declared.Refusal.TheVariants as refusal
 use Rattle.sv_model.specs.Journal.{Change}
@@ -19,13 +19,14 @@ pub record Answered : Type 0 where
 
 -- the lines of a lane with their replies, as far as both go
 abbrev pub answered : List Line → List (ℕ × Reply) → List Answered
-answered (line ∷ lines) (r ∷ replies) = record { command = line.command; reply = r.1 } ∷ answered lines replies
+answered (line ∷ lines) (r ∷ replies) =
+    record { command = line.command; reply = r.1 } ∷ answered lines replies
 answered lines replies = []
 
 -- The family of which the lane has a handle under this name. At this stage it is `default`, which each
 -- lane has from the start, and no other.
 abbrev pub handle_of : List Answered → List ℕ → Option ℕ
-handle_of earlier name = cond (pointwise nat_eq name (codes "default")) (Some 0) None
+handle_of earlier name = if bytes_eq name (codes "default") then Some 0 else None
 
 -- the write that an accepted command asked for
 abbrev pub change_asked : Command → Reply → List Change
@@ -61,31 +62,32 @@ abbrev pub file_by : Reply → ℕ
 file_by (reply.Flush number from to) = number
 file_by reply = 0
 
+-- the greatest of what the replies to the lane show
+abbrev pub greatest_shown : (Reply → ℕ) → List Answered → ℕ
+greatest_shown shown [] = 0
+greatest_shown shown (a ∷ all) = max (shown a.reply) (greatest_shown shown all)
+
 -- the greatest write number or cut that the lane was shown
 abbrev pub seen : List Answered → ℕ
-seen [] = 0
-seen (a ∷ all) = max (shown_by a.reply) (seen all)
+seen all = greatest_shown shown_by all
 
 -- the greatest serial that the lane was shown
 abbrev pub newest_serial : List Answered → ℕ
-newest_serial [] = 0
-newest_serial (a ∷ all) = max (serial_by a.reply) (newest_serial all)
+newest_serial all = greatest_shown serial_by all
 
 -- how far the flushes reach that the lane was shown
 abbrev pub flushed : List Answered → ℕ
-flushed [] = 0
-flushed (a ∷ all) = max (flushed_by a.reply) (flushed all)
+flushed all = greatest_shown flushed_by all
 
 -- the greatest file number that the lane was shown
 abbrev pub newest_file : List Answered → ℕ
-newest_file [] = 0
-newest_file (a ∷ all) = max (file_by a.reply) (newest_file all)
+newest_file all = greatest_shown file_by all
 
 -- 1 where the reply says that the directory failed
 abbrev pub fault_by : Reply → ℕ
 fault_by (reply.Refused (refusal.DirFault number)) = 1
 fault_by reply = 0
 
--- how often the lane was told that the directory failed
-abbrev pub faults_told : List Answered → ℕ
-faults_told all = total (λ a. fault_by a.reply) all
+-- how many replies to the lane say that the directory failed
+abbrev pub dir_faults : List Answered → ℕ
+dir_faults all = total (λ a. fault_by a.reply) all

@@ -10,9 +10,10 @@ use Rattle.sv_script.specs.declared.commands.Command.{Command}
 use Rattle.sv_script.specs.declared.commands.Command.TheVariants as commands
 use Rattle.sv_script.specs.declared.parsing.verbs.Verb.{Verb}
 use Rattle.sv_script.specs.declared.parsing.verbs.Verb.TheVariants as verbs
+use Rattle.sv_script.specs.Words.{Words}
 use Rattle.sv_script.specs.Items.{item_of}
 use Rattle.sv_script.specs.Numbers.{number_of}
-use Rattle.sv_script.specs.Parts.{◌>>=◌, or_bad}
+use Rattle.sv_script.specs.Reading.{◌>>=◌, or_bad}
 
 -- A word read as a name, as an item, as a number, as the name of an option.
 abbrev pub name : List ℕ → Result (List ℕ) BadKind
@@ -25,13 +26,16 @@ abbrev pub number : List ℕ → Result ℕ BadKind
 number word = or_bad kinds.Number (number_of word)
 
 unfoldable pub option_of : List ℕ → Option OptionName
-option_of word = if bytes_eq word (codes "memtable_rows") then Some options.MemtableRows else if bytes_eq word (codes "max_immutable") then Some options.MaxImmutable else None
+option_of word =
+    if bytes_eq word (codes "memtable_rows") then Some options.MemtableRows
+    else if bytes_eq word (codes "max_immutable") then Some options.MaxImmutable
+    else None
 
 abbrev pub option_name : List ℕ → Result OptionName BadKind
 option_name word = or_bad kinds.Option (option_of word)
 
 -- The words after a command, read in order; their number is tested first.
-unfoldable pub put_of : List (List ℕ) → Result Command BadKind
+unfoldable pub put_of : Words → Result Command BadKind
 put_of (a ∷ b ∷ c ∷ []) = do
   family ← name a
   key ← item b
@@ -39,21 +43,21 @@ put_of (a ∷ b ∷ c ∷ []) = do
   Ok (commands.Put family key value)
 put_of _ = Err kinds.Count
 
-unfoldable pub family_and_key : List (List ℕ) → Result (List ℕ × List ℕ) BadKind
+unfoldable pub family_and_key : Words → Result (List ℕ × List ℕ) BadKind
 family_and_key (a ∷ b ∷ []) = do
   family ← name a
   key ← item b
   Ok (family, key)
 family_and_key _ = Err kinds.Count
 
-unfoldable pub pin_and_key : List (List ℕ) → Result (ℕ × List ℕ) BadKind
+unfoldable pub pin_and_key : Words → Result (ℕ × List ℕ) BadKind
 pin_and_key (a ∷ b ∷ []) = do
   pin ← number a
   key ← item b
   Ok (pin, key)
 pin_and_key _ = Err kinds.Count
 
-unfoldable pub set_of : List (List ℕ) → Result Command BadKind
+unfoldable pub set_of : Words → Result Command BadKind
 set_of (a ∷ b ∷ c ∷ []) = do
   family ← name a
   option ← option_name b
@@ -61,20 +65,20 @@ set_of (a ∷ b ∷ c ∷ []) = do
   Ok (commands.Set family option value)
 set_of _ = Err kinds.Count
 
-unfoldable pub family_alone : List (List ℕ) → Result (List ℕ) BadKind
+unfoldable pub family_alone : Words → Result (List ℕ) BadKind
 family_alone (a ∷ []) = name a
 family_alone _ = Err kinds.Count
 
-unfoldable pub number_alone : List (List ℕ) → Result ℕ BadKind
+unfoldable pub number_alone : Words → Result ℕ BadKind
 number_alone (a ∷ []) = number a
 number_alone _ = Err kinds.Count
 
-unfoldable pub alone : Command → List (List ℕ) → Result Command BadKind
+unfoldable pub alone : Command → Words → Result Command BadKind
 alone command [] = Ok command
 alone command (_ ∷ _) = Err kinds.Count
 
 -- what a command's words are
-unfoldable pub of_verb : Verb → List (List ℕ) → Result Command BadKind
+unfoldable pub of_verb : Verb → Words → Result Command BadKind
 of_verb verbs.Put words = put_of words
 of_verb verbs.Delete words = family_and_key words >>= λ x. Ok (commands.Delete x.0 x.1)
 of_verb verbs.Get words = family_and_key words >>= λ x. Ok (commands.Get x.0 x.1)
@@ -95,12 +99,41 @@ of_verb verbs.Purge words = alone commands.Purge words
 of_verb verbs.Scan words = alone commands.Scan words
 of_verb verbs.Rest words = alone commands.Rest words
 
+-- the words that name commands
+abbrev pub verbs_by_word : List (List ℕ × Verb)
+verbs_by_word =
+    (codes "put", verbs.Put)
+    ∷ (codes "delete", verbs.Delete)
+    ∷ (codes "get", verbs.Get)
+    ∷ (codes "getp", verbs.Getp)
+    ∷ (codes "flush", verbs.Flush)
+    ∷ (codes "compact", verbs.Compact)
+    ∷ (codes "create", verbs.Create)
+    ∷ (codes "open", verbs.Open)
+    ∷ (codes "release", verbs.Release)
+    ∷ (codes "drop", verbs.Drop)
+    ∷ (codes "set", verbs.Set)
+    ∷ (codes "pin", verbs.Pin)
+    ∷ (codes "unpin", verbs.Unpin)
+    ∷ (codes "hold", verbs.Hold)
+    ∷ (codes "unhold", verbs.Unhold)
+    ∷ (codes "live", verbs.Live)
+    ∷ (codes "purge", verbs.Purge)
+    ∷ (codes "scan", verbs.Scan)
+    ∷ (codes "rest", verbs.Rest)
+    ∷ []
+
+-- what stands beside the word in the table
+abbrev pub named_by : List (List ℕ × Verb) → List ℕ → Option Verb
+named_by [] word = None
+named_by (named ∷ table) word = if bytes_eq word named.0 then Some named.1 else named_by table word
+
 -- which command a word names
 unfoldable pub verb_of : List ℕ → Option Verb
-verb_of word = if bytes_eq word (codes "put") then Some verbs.Put else if bytes_eq word (codes "delete") then Some verbs.Delete else if bytes_eq word (codes "get") then Some verbs.Get else if bytes_eq word (codes "getp") then Some verbs.Getp else if bytes_eq word (codes "flush") then Some verbs.Flush else if bytes_eq word (codes "compact") then Some verbs.Compact else if bytes_eq word (codes "create") then Some verbs.Create else if bytes_eq word (codes "open") then Some verbs.Open else if bytes_eq word (codes "release") then Some verbs.Release else if bytes_eq word (codes "drop") then Some verbs.Drop else if bytes_eq word (codes "set") then Some verbs.Set else if bytes_eq word (codes "pin") then Some verbs.Pin else if bytes_eq word (codes "unpin") then Some verbs.Unpin else if bytes_eq word (codes "hold") then Some verbs.Hold else if bytes_eq word (codes "unhold") then Some verbs.Unhold else if bytes_eq word (codes "live") then Some verbs.Live else if bytes_eq word (codes "purge") then Some verbs.Purge else if bytes_eq word (codes "scan") then Some verbs.Scan else if bytes_eq word (codes "rest") then Some verbs.Rest else None
+verb_of word = named_by verbs_by_word word
 
 -- the command that words are: its own word, and those that it wants
-unfoldable pub command_of : List (List ℕ) → Result Command BadKind
+unfoldable pub command_of : Words → Result Command BadKind
 command_of [] = Err kinds.Command
 command_of (word ∷ words) = do
   verb ← or_bad kinds.Command (verb_of word)

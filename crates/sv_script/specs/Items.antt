@@ -1,5 +1,6 @@
 -- Items: how bytes are written as a word, and which bytes a word stands for.
-use Rattle.std.specs.Prelude.{ℕ, ◌+◌, ◌-◌, ◌*◌, ◌/◌, ◌%◌, Bool, not, ◌&&◌, nat_le, nat_lt, ◌==◌, if◌then◌else◌, List, [], ◌∷◌, Option, Some, None, flat_map}
+use Rattle.std.specs.Prelude.{ℕ, ◌+◌, ◌-◌, ◌*◌, ◌/◌, ◌%◌, Bool, not, ◌&&◌, nat_le, nat_lt, ◌==◌, if◌then◌else◌}
+use Rattle.std.specs.Prelude.{List, [], ◌∷◌, Option, Some, None, flat_map}
 
 -- a byte that stands for itself: a visible one other than `%`
 abbrev pub is_plain : ℕ → Bool
@@ -20,7 +21,11 @@ item_text (byte ∷ bytes) = flat_map byte_text (byte ∷ bytes)
 
 -- the value of a hexadecimal digit of either case
 abbrev pub hex_value : ℕ → Option ℕ
-hex_value c = if nat_le 48 c && nat_le c 57 then Some (c - 48) else if nat_le 65 c && nat_le c 70 then Some (c - 55) else if nat_le 97 c && nat_le c 102 then Some (c - 87) else None
+hex_value c =
+    if nat_le 48 c && nat_le c 57 then Some (c - 48)
+    else if nat_le 65 c && nat_le c 70 then Some (c - 55)
+    else if nat_le 97 c && nat_le c 102 then Some (c - 87)
+    else None
 
 -- the byte that two hexadecimal digits stand for
 abbrev pub pair_value : Option ℕ → Option ℕ → Option ℕ
@@ -43,7 +48,9 @@ unfoldable pub units_of : List ℕ → Option (List ℕ)
 units_of [] = Some []
 units_of (a ∷ []) = before (plain_value a) (Some [])
 units_of (a ∷ b ∷ []) = before (plain_value a) (units_of (b ∷ []))
-units_of (a ∷ b ∷ c ∷ rest) = if a == 37 then before (pair_value (hex_value b) (hex_value c)) (units_of rest) else before (plain_value a) (units_of (b ∷ c ∷ rest))
+units_of (a ∷ b ∷ c ∷ rest) =
+    if a == 37 then before (pair_value (hex_value b) (hex_value c)) (units_of rest)
+    else before (plain_value a) (units_of (b ∷ c ∷ rest))
 
 -- The bytes that a word stands for as an item: none for `%` alone, else those of one or more units.
 unfoldable pub item_of : List ℕ → Option (List ℕ)

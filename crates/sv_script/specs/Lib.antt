@@ -2,11 +2,10 @@ pub mod Answered
 pub mod Built
 pub mod Commands
 pub mod Items
-pub mod LineFaults
 pub mod Numbers
 pub mod OutcomeTexts
-pub mod Parts
 pub mod Progress
+pub mod Reading
 pub mod RefusalTexts
 pub mod ReplyLaw
 pub mod ReplyTexts

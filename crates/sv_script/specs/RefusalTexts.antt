@@ -31,6 +31,10 @@ refusal_head (refusal.BadFile number place) = codes "refused 22 BadFile"
 refusal_head (refusal.Busy number) = codes "refused 23 Busy"
 refusal_head refusal.NothingToCompact = codes "refused 24 NothingToCompact"
 refusal_head refusal.TooManyHolds = codes "refused 25 TooManyHolds"
+refusal_head refusal.TooManySnapshots = codes "refused 26 TooManySnapshots"
+refusal_head refusal.NoSnapshot = codes "refused 27 NoSnapshot"
+refusal_head refusal.NoIterator = codes "refused 28 NoIterator"
+refusal_head (refusal.NoHandle index) = codes "refused 29 NoHandle"
 refusal_head refusal.OutOfMemory = codes "no memory"
 
 -- the fields, in the order in which they are printed
@@ -42,8 +46,9 @@ refusal_fields (refusal.Disabled count) = count ∷ []
 refusal_fields (refusal.DirFault number) = number ∷ []
 refusal_fields (refusal.BadFile number place) = number ∷ place ∷ []
 refusal_fields (refusal.Busy number) = number ∷ []
+refusal_fields (refusal.NoHandle index) = index ∷ []
 refusal_fields other = []
 
--- A refusal prints its number, its name and its fields; want of memory has neither.
+-- A refusal prints its number, its name and its fields; out of memory has neither.
 unfoldable pub refusal_text : Refusal → List ℕ
 refusal_text refusal = refusal_head refusal ++ listed (refusal_fields refusal)

@@ -1,13 +1,15 @@
 -- When the replies of a lane fit books: each is the reply to its command that these books, and the lane's
 -- earlier replies, allow.
-use Rattle.std.specs.Prelude.{◌≡◌, ◌<◌, ◌≤◌, ℕ, Bool, true, false, List, [], ◌∷◌, Option, Some, None, length, take, slice_get, IsSomeAnd}
+use Rattle.std.specs.Prelude.{◌≡◌, ◌<◌, ◌≤◌, ℕ, Bool, false, List, [], ◌∷◌, length, take, slice_get}
+use Rattle.std.specs.Prelude.{Option, Some, None, IsSomeAnd}
 use Rattle.sv_model.specs.declared.Op.{Op}
 use Rattle.sv_model.specs.declared.Op.TheVariants as op
 use Rattle.sv_model.specs.declared.Refusal.{Refusal}
 use Rattle.sv_model.specs.declared.Refusal.TheVariants as refusal
 use Rattle.sv_model.specs.Books.{Books}
 use Rattle.sv_model.specs.Reads.{IsWrittenAt, LooksAt, IsOutput}
-use Rattle.sv_model.specs.Moments.{WasStalled, WasFlushed, WereManyMemtables, WereManyLive, WereAllMade, WereAllNumbered, WasCapturedFor}
+use Rattle.sv_model.specs.Moments.{WasStalled, WasFlushed, WasCapturedFor}
+use Rattle.sv_model.specs.Moments.{WereManyMemtables, WereManyLive, WereAllMade, WereAllNumbered}
 use Rattle.sv_model.specs.Refusals.{first_due, key_fault, value_fault}
 use Rattle.sv_script.specs.declared.commands.Command.{Command}
 use Rattle.sv_script.specs.declared.commands.Command.TheVariants as command
@@ -16,9 +18,9 @@ use Rattle.sv_script.specs.declared.replies.Reply.TheVariants as reply
 use Rattle.sv_script.specs.Answered.{Answered, handle_of, accepted, seen, newest_serial, flushed, newest_file}
 
 -- a lane without a handle of the name
-abbrev pub handle_fault : Option ℕ → Option Refusal
-handle_fault (Some family) = None
-handle_fault None = Some refusal.NoFamily
+abbrev pub handle_refusal : Option ℕ → Option Refusal
+handle_refusal (Some family) = None
+handle_refusal None = Some refusal.NoFamily
 
 -- ---- refusals
 
@@ -26,13 +28,13 @@ handle_fault None = Some refusal.NoFamily
 -- replies make due.
 abbrev pub due : List Answered → Command → Option Refusal
 due earlier (command.Put family key value) =
-    first_due (key_fault (length key) ∷ value_fault (length value) ∷ handle_fault (handle_of earlier family) ∷ [])
+    first_due (key_fault (length key) ∷ value_fault (length value) ∷ handle_refusal (handle_of earlier family) ∷ [])
 due earlier (command.Delete family key) =
-    first_due (key_fault (length key) ∷ handle_fault (handle_of earlier family) ∷ [])
+    first_due (key_fault (length key) ∷ handle_refusal (handle_of earlier family) ∷ [])
 due earlier (command.Get family key) =
-    first_due (key_fault (length key) ∷ handle_fault (handle_of earlier family) ∷ [])
+    first_due (key_fault (length key) ∷ handle_refusal (handle_of earlier family) ∷ [])
 due earlier (command.Flush family) =
-    first_due (handle_fault (handle_of earlier family) ∷ [])
+    first_due (handle_refusal (handle_of earlier family) ∷ [])
 due earlier command = None
 
 -- what a refused write says of the books
@@ -60,10 +62,14 @@ FlushMet books earlier family e = ⊥
 
 -- The refusal that a command met in the books of its moment, as later books show it.
 abbrev pub Met : Bool → Books → List Answered → Command → Refusal → Type 0
-Met told books earlier (command.Put family key value) e = IsSomeAnd (handle_of earlier family) (λ f. WriteMet books earlier f e)
-Met told books earlier (command.Delete family key) e = IsSomeAnd (handle_of earlier family) (λ f. WriteMet books earlier f e)
-Met told books earlier (command.Get family key) e = IsSomeAnd (handle_of earlier family) (λ f. ReadMet told books f e)
-Met told books earlier (command.Flush family) e = IsSomeAnd (handle_of earlier family) (λ f. FlushMet books earlier f e)
+Met told books earlier (command.Put family key value) e =
+    IsSomeAnd (handle_of earlier family) (λ f. WriteMet books earlier f e)
+Met told books earlier (command.Delete family key) e =
+    IsSomeAnd (handle_of earlier family) (λ f. WriteMet books earlier f e)
+Met told books earlier (command.Get family key) e =
+    IsSomeAnd (handle_of earlier family) (λ f. ReadMet told books f e)
+Met told books earlier (command.Flush family) e =
+    IsSomeAnd (handle_of earlier family) (λ f. FlushMet books earlier f e)
 Met told books earlier command e = ⊥
 
 -- Where a refusal is due, that one comes; else one that the books of the moment gave.
@@ -74,23 +80,32 @@ Refused told books earlier command e None = Met told books earlier command e
 -- ---- answers
 
 -- a write: the one of its number in its family, after all that the lane had seen
-pub record Writes (books : Books) (lane : ℕ) (earlier : List Answered) (key : List ℕ) (op : Op) (n family : ℕ) : Type 0 where
+pub record Writes (books : Books) (lane : ℕ) (earlier : List Answered)
+    (key : List ℕ) (op : Op) (n family : ℕ) : Type 0 where
   pub later : seen earlier < n
   pub written : IsWrittenAt books lane family key op n
 
 -- a read: of all that the lane had seen, through a SuperVersion no older than it was shown
-pub record Gets (told : Bool) (books : Books) (earlier : List Answered) (key : List ℕ) (found : Option (List ℕ)) (cut serial family : ℕ) : Type 0 where
+pub record Gets (told : Bool) (books : Books) (earlier : List Answered)
+    (key : List ℕ) (found : Option (List ℕ)) (cut serial family : ℕ) : Type 0 where
   pub later : seen earlier ≤ cut
   pub newer : newest_serial earlier ≤ serial
   pub looks : LooksAt told books family key found cut serial
 
 -- A flush: the file covers at least one write, and all that the lane had seen; its number is above each that the
--- lane was shown.
+-- lane was shown. The file keeps its deletes, since something may lie below it, and may have cuts.
 pub record Flushes (books : Books) (earlier : List Answered) (number from to family : ℕ) : Type 0 where
   pub range : from < to
   pub later : seen earlier ≤ to
   pub newer : newest_file earlier < number
-  pub output : IsOutput books family (record { number = number; from = from; to = to; bottom = false })
+  pub cuts : List ℕ
+  pub output :
+      IsOutput books family (record {
+        number = number;
+        from = from;
+        to = to;
+        bottom = record { last = false; cuts = cuts };
+      })
 
 -- what an answer that is no refusal says of the books
 abbrev pub Shows : Bool → Books → ℕ → List Answered → Command → Reply → Type 0
@@ -106,12 +121,14 @@ Shows told books lane earlier (command.Flush family) (reply.Flush number from to
     IsSomeAnd (handle_of earlier family) (Flushes books earlier number from to)
 Shows told books lane earlier command reply = ⊥
 
--- A command is refused as is due, or as the books of its moment had it, and else answered as the books say. Want
--- of memory may stand in place of any answer. `told` says whether the directory tells its files.
+-- A command is refused as is due, or as the books of its moment had it, and else answered as the books say. Out of
+-- memory may stand in place of any answer. `told` says whether the directory tells its files.
 abbrev pub ReplyFits : Bool → Books → ℕ → List Answered → Command → Reply → Type 0
 ReplyFits told books lane earlier command (reply.Refused refusal.OutOfMemory) = Unit {0}
-ReplyFits told books lane earlier command (reply.Refused e) = Refused told books earlier command e (due earlier command)
-ReplyFits told books lane earlier command reply = (due earlier command ≡ None) × Shows told books lane earlier command reply
+ReplyFits told books lane earlier command (reply.Refused e) =
+    Refused told books earlier command e (due earlier command)
+ReplyFits told books lane earlier command reply =
+    (due earlier command ≡ None) × Shows told books lane earlier command reply
 
 -- Each reply of the lane fits the books, after the replies before it.
 abbrev pub RepliesFit : Bool → Books → ℕ → List Answered → Type 0

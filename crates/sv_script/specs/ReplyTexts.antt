@@ -10,7 +10,7 @@ use Rattle.sv_script.specs.RefusalTexts.{refusal_text}
 unfoldable pub seen_text : ℕ → ℕ → List ℕ
 seen_text cut sv = numbered (codes " cut ") cut ++ numbered (codes " sv ") sv
 
--- a file and the writes that it holds
+-- a file and the writes that it covers
 unfoldable pub file_text : ℕ → ℕ → ℕ → List ℕ
 file_text number from to =
     numbered (codes " file ") number ++ (numbered (codes " from ") from ++ numbered (codes " to ") to)

@@ -1,5 +1,5 @@
 -- The text of a report.
-use Rattle.std.specs.Prelude.{ℕ, Bool, cond, List, [], ◌∷◌, ◌++◌, codes, flat_map}
+use Rattle.std.specs.Prelude.{ℕ, Bool, if◌then◌else◌, List, [], ◌∷◌, ◌++◌, codes, flat_map}
 use Rattle.sv_model.specs.declared.reports.Summary.{Summary}
 use Rattle.sv_model.specs.declared.reports.FamilyLine.{FamilyLine}
 use Rattle.sv_model.specs.declared.reports.Totals.{Totals}
@@ -17,7 +17,7 @@ tail_text lane tail =
     ++ (numbered (codes " uses ") tail.uses
     ++ (numbered (codes " misses ") tail.misses ++ (numbered (codes " swept ") tail.swept ++ feed)))
 
--- A lane's part: a line with its number, a line for each reply, what it counted.
+-- A lane's section: a line with its number, a line for each reply, what it counted.
 unfoldable pub lane_text : LaneReport → List ℕ
 lane_text lane =
     numbered (codes "lane ") lane.lane
@@ -30,11 +30,11 @@ files_text (number ∷ numbers) = listed (number ∷ numbers)
 
 -- whether it was dropped
 abbrev pub standing_text : Bool → List ℕ
-standing_text dropped = cond dropped (codes " dropped") (codes " live")
+standing_text dropped = if dropped then codes " dropped" else codes " live"
 
 -- the files of its last Version, of which a dropped family has none
 abbrev pub last_files : FamilyLine → List ℕ
-last_files family = cond family.dropped [] family.files
+last_files family = if family.dropped then [] else family.files
 
 -- which family it is, and whether it was dropped
 unfoldable pub family_head : FamilyLine → List ℕ
@@ -75,6 +75,6 @@ summary_text summary =
     ++ (totals_text (codes "gone") summary.gone
     ++ (strays_text summary.strays_seen summary.strays_gone ++ end_text summary.end summary.left)))
 
--- The report: each lane's part in order, then the whole.
+-- The report: each lane's section in order, then the run as a whole.
 unfoldable pub report_text : List LaneReport → Summary → List ℕ
 report_text lanes summary = flat_map lane_text lanes ++ summary_text summary

@@ -1,7 +1,8 @@
 // The commands of a script.
 use sv_model::{Items, Name, OptionName};
 
-/// A command of a lane. Keys and values are the bytes of its items, of any length.
+/// A command of a lane. Keys and values are the bytes of its items, of any length; a family is one that the lane has a
+/// handle of under this name.
 #[derive(Drop, Debug)]
 pub enum Command {
     Put {
@@ -17,6 +18,7 @@ pub enum Command {
         family: Name,
         key: Items<u8>,
     },
+    /// A get through the SuperVersion of a pin of the lane.
     Getp {
         pin: u64,
         key: Items<u8>,
@@ -27,6 +29,7 @@ pub enum Command {
     Open(Name),
     Release(Name),
     Drop(Name),
+    /// The value may be outside the option's range.
     Set {
         family: Name,
         option: OptionName,

@@ -1,7 +1,7 @@
 // How a run of the program ends where no report is due.
 use crate::scripts::BadLine;
 
-/// What the program has to say where no lane ran. The same text serves for help as for faulty words.
+/// What the program has to say where no lane ran. The same text serves for help as for words that it does not take.
 #[derive(Clone, Copy, Debug, PartialEq, Eq)]
 pub enum Outcome {
     /// The words are none of those that the program takes, or help was asked for.
@@ -14,6 +14,6 @@ pub enum Outcome {
     ReadFault,
     /// The directory failed before any lane ran.
     DirFault,
-    /// Memory was wanted and not had before the report was made.
+    /// Out of memory before the report was made.
     OutOfMemory,
 }

@@ -1,10 +1,10 @@
 // Reading a script.
 mod command_lines;
 mod decimals;
-mod faults;
+mod errors;
 mod item_bytes;
 mod line_kinds;
-mod parts;
+mod operands;
 mod progress;
 mod reading;
 mod splitting;

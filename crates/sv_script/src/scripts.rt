@@ -1,14 +1,27 @@
 // What a script is once it is read.
+ghost use Rattle.std.specs.Prelude.{◌≡◌};
+ghost use Rattle.sv_script.specs.declared.scripts.ScriptError.TheVariants as errors;
+
 use crate::commands::Command;
-use sv_model::Items;
+use sv_model::{Items, OutOfMemory};
+
+/// The greatest number of a lane.
+pub const MAX_LANES: u8 = 32;
+
+/// The greatest number of command lines of a script.
+pub const MAX_COMMANDS: usize = 500_000;
+
+/// The greatest number of phases that a `Script` can tell.
+pub const MAX_PHASES: u32 = u32::MAX;
 
 /// A script: its lines in order, without those that are skipped.
 #[derive(Drop, Debug)]
 pub struct Script {
-    /// 1 to 32.
+    /// The greatest lane of its lines, 1 to 32; 1 where it has no line.
     pub lanes: u8,
     /// At least 1.
     pub phases: u32,
+    /// At most 500,000.
     pub lines: Items<Line>,
 }
 
@@ -24,16 +37,26 @@ pub struct Line {
     pub command: Command,
 }
 
-/// Why bytes are no script.
+/// Why bytes are not read as a script.
 #[derive(Clone, Copy, Debug, PartialEq, Eq)]
 pub enum ScriptError {
+    /// A line is outside the grammar; this is the first.
     Bad(BadLine),
     OutOfMemory,
+}
+
+impl From<OutOfMemory> for ScriptError {
+    ghost from_gives = { λ _ error. error ≡ errors.OutOfMemory };
+
+    fn from(_error: OutOfMemory) -> ScriptError {
+        ScriptError::OutOfMemory
+    }
 }
 
 /// The first bad line of a script.
 #[derive(Clone, Copy, Debug, PartialEq, Eq)]
 pub struct BadLine {
+    /// Its number in the script, from 1.
     pub line: u64,
     pub kind: BadKind,
 }

@@ -33,9 +33,9 @@ fn expect_script(
 }
 
 // The line must be this put of the lane 1.
-fn expect_put(rt: &impl Abort, line: &Line, place: (u64, u32), family: &[u8], row: (&[u8], &[u8])) {
-    assert_eq!(rt; line.line, place.0);
-    assert_eq!(rt; line.phase, place.1);
+fn expect_put(rt: &impl Abort, line: &Line, at: (u64, u32), family: &[u8], row: (&[u8], &[u8])) {
+    assert_eq!(rt; line.line, at.0);
+    assert_eq!(rt; line.phase, at.1);
     assert_eq!(rt; line.lane, 1);
     match &line.command {
         Command::Put {
@@ -52,16 +52,10 @@ fn expect_put(rt: &impl Abort, line: &Line, place: (u64, u32), family: &[u8], ro
 }
 
 // The script must be this one put.
-fn expect_one(
-    rt: &impl Abort,
-    alloc: Global,
-    script: &[u8],
-    place: (u64, u32),
-    row: (&[u8], &[u8]),
-) {
-    let script = expect_script(rt, alloc, script, place.1.saturating_add(1), 1);
+fn expect_one(rt: &impl Abort, alloc: Global, script: &[u8], at: (u64, u32), row: (&[u8], &[u8])) {
+    let script = expect_script(rt, alloc, script, at.1.saturating_add(1), 1);
     match script.lines.as_slice() {
-        [line] => expect_put(rt, line, place, b"cold".as_slice(), row),
+        [line] => expect_put(rt, line, at, b"cold".as_slice(), row),
         _ => panic!(rt; "other lines"),
     }
 }

@@ -92,7 +92,7 @@ fn prints_replies(rt: HostRuntime) -> Result<(), Fail> {
     )
 }
 
-const REFUSALS: [(Refusal, &str); 26] = [
+const REFUSALS: [(Refusal, &str); 30] = [
     (
         Refusal::KeyLength { length: 65 },
         "7 refused 1 KeyLength 65\n",
@@ -137,6 +137,13 @@ const REFUSALS: [(Refusal, &str); 26] = [
     (Refusal::Busy { number: 10 }, "7 refused 23 Busy 10\n"),
     (Refusal::NothingToCompact, "7 refused 24 NothingToCompact\n"),
     (Refusal::TooManyHolds, "7 refused 25 TooManyHolds\n"),
+    (Refusal::TooManySnapshots, "7 refused 26 TooManySnapshots\n"),
+    (Refusal::NoSnapshot, "7 refused 27 NoSnapshot\n"),
+    (Refusal::NoIterator, "7 refused 28 NoIterator\n"),
+    (
+        Refusal::NoHandle { index: 16 },
+        "7 refused 29 NoHandle 16\n",
+    ),
     (Refusal::OutOfMemory, "7 no memory\n"),
 ];
 

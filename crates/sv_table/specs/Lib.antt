@@ -1,3 +1,5 @@
 pub mod Decoding
-pub mod Merging
+pub mod Lookups
+pub mod Places
 pub mod Reading
+pub mod Views

@@ -1,38 +1,23 @@
 // Why bytes are no table.
-ghost use Rattle.std.specs.Prelude.{◌≡◌};
-ghost use Rattle.sv_table.specs.declared.faults.ReadError.TheVariants.{Memory};
 
-use std::alloc::{AllocError, AllocFailed};
-
-/// What stopped the reading: memory, or the first bad field, with the number of bytes left where it begins.
+/// Where a reader stopped: so many bytes are left where the first bad field begins.
 #[derive(Clone, Copy, Debug, PartialEq, Eq)]
-pub enum ReadError {
-    Memory,
-    Bad(usize),
+pub(crate) struct Stuck {
+    pub(crate) left: usize,
+}
+
+/// The bytes are no table's text: the first field that is cut short or breaks its rule begins at this offset, or,
+/// where all fields are right, more bytes follow from there.
+#[derive(Clone, Copy, Debug, PartialEq, Eq)]
+pub struct Bad {
+    pub place: u64,
 }
 
 /// Why bytes were not decoded.
 #[derive(Clone, Copy, Debug, PartialEq, Eq)]
 pub enum DecodeError {
-    /// The bytes are no table's text: the first field that is cut short or breaks its rule begins at this place,
-    /// or, where all fields are right, more bytes follow from there.
+    /// The bytes are no table's text, as `Bad` says.
     Bad { place: u64 },
-    /// Memory was wanted and not had.
+    /// They are a table's text, and memory was refused.
     OutOfMemory,
-}
-
-impl From<AllocError> for ReadError {
-    ghost from_gives = { λ _ e. e ≡ Memory };
-
-    fn from(_error: AllocError) -> ReadError {
-        ReadError::Memory
-    }
-}
-
-impl<T: Drop> From<AllocFailed<T>> for ReadError {
-    ghost from_gives = { λ _ e. e ≡ Memory };
-
-    fn from(_error: AllocFailed<T>) -> ReadError {
-        ReadError::Memory
-    }
 }

@@ -1,37 +1,38 @@
-// Reading one field, or the fields of one row.
+// Reading one field.
 ghost use Rattle.std.specs.Prelude.{◌≡◌, List, length};
 ghost use Rattle.std.specs.Int.{w16, w32, w64};
-ghost use Rattle.sv_table.specs.Reading.{Gives, bytes_at, number_at, byte_at};
+ghost use Rattle.sv_table.specs.Reading.{bytes_at, number_at, byte_at};
+ghost use Rattle.sv_table.specs.Views.{Gives};
 
-use crate::faults::ReadError;
+use crate::faults::Stuck;
 
-pub fn u16_at(bytes: &[u8]) -> Result<(u16, &[u8]), ReadError>
+pub(crate) fn u16_at(bytes: &[u8]) -> Result<(u16, &[u8]), Stuck>
     ensures { Gives (λ x. (x.0, x.1.now)) result (number_at w16 bytes.now) }
 {
     if bytes.len() < 2 {
-        return Err(ReadError::Bad(bytes.len()));
+        return Err(Stuck { left: bytes.len() });
     }
     let (front, rest) = bytes.split_at(2);
     let number = u16::from_le_bytes([front[0], front[1]]);
     Ok((number, rest))
 }
 
-pub fn u32_at(bytes: &[u8]) -> Result<(u32, &[u8]), ReadError>
+pub(crate) fn u32_at(bytes: &[u8]) -> Result<(u32, &[u8]), Stuck>
     ensures { Gives (λ x. (x.0, x.1.now)) result (number_at w32 bytes.now) }
 {
     if bytes.len() < 4 {
-        return Err(ReadError::Bad(bytes.len()));
+        return Err(Stuck { left: bytes.len() });
     }
     let (front, rest) = bytes.split_at(4);
     let number = u32::from_le_bytes([front[0], front[1], front[2], front[3]]);
     Ok((number, rest))
 }
 
-pub fn u64_at(bytes: &[u8]) -> Result<(u64, &[u8]), ReadError>
+pub(crate) fn u64_at(bytes: &[u8]) -> Result<(u64, &[u8]), Stuck>
     ensures { Gives (λ x. (x.0, x.1.now)) result (number_at w64 bytes.now) }
 {
     if bytes.len() < 8 {
-        return Err(ReadError::Bad(bytes.len()));
+        return Err(Stuck { left: bytes.len() });
     }
     let (front, rest) = bytes.split_at(8);
     let number = u64::from_le_bytes([
@@ -40,20 +41,20 @@ pub fn u64_at(bytes: &[u8]) -> Result<(u64, &[u8]), ReadError>
     Ok((number, rest))
 }
 
-pub fn byte_at(bytes: &[u8]) -> Result<(u8, &[u8]), ReadError>
+pub(crate) fn byte_at(bytes: &[u8]) -> Result<(u8, &[u8]), Stuck>
     ensures { Gives (λ x. (x.0, x.1.now)) result (byte_at bytes.now) }
 {
     match bytes {
-        [] => Err(ReadError::Bad(0)),
+        [] => Err(Stuck { left: 0 }),
         [byte, rest @ ..] => Ok((*byte, rest)),
     }
 }
 
-pub fn bytes_at(len: usize, bytes: &[u8]) -> Result<(&[u8], &[u8]), ReadError>
+pub(crate) fn bytes_at(len: usize, bytes: &[u8]) -> Result<(&[u8], &[u8]), Stuck>
     ensures { Gives (λ x. (x.0.now, x.1.now)) result (bytes_at len bytes.now) }
 {
     if bytes.len() < len {
-        return Err(ReadError::Bad(bytes.len()));
+        return Err(Stuck { left: bytes.len() });
     }
     Ok(bytes.split_at(len))
 }

@@ -1,17 +1,26 @@
-//! Table files: their bytes, looking up a key in one, and merging several into one.
+//! Table files: their bytes in three formats, and looking up a key in them.
 #![tactic(auto)]
 
+mod checked;
 mod decoding;
 mod encoding;
 mod faults;
 mod fields;
+mod formats;
+mod headers;
+mod heads;
+mod hits;
 mod laws;
-mod merging;
-mod tables;
+mod lookups;
+mod places;
+mod rows;
+mod walks;
 
+pub use checked::Checked;
 pub use decoding::decode;
 pub use encoding::encode;
-pub use faults::DecodeError;
-pub use laws::{one_flat, one_text};
-pub use merging::merge;
-pub use tables::Table;
+pub use faults::{Bad, DecodeError};
+pub use heads::{Head, check};
+pub use hits::Hit;
+pub use laws::one_text;
+pub use lookups::find_in;

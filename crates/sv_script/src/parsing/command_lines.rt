@@ -2,21 +2,18 @@
 ghost use Rattle.std.specs.Prelude.{◌≡◌, map};
 ghost use Rattle.sv_script.specs.Built.{is_built, may_run};
 ghost use Rattle.sv_script.specs.Commands.{command_of, of_verb};
-ghost use Rattle.sv_script.specs.Parts.{Gives};
+ghost use Rattle.sv_script.specs.Reading.{Gives};
 ghost use Rattle.sv_script.specs.Script.{command_line, lane_and_command};
 
 use crate::commands::Command;
 use crate::parsing::decimals::lane_of;
-use crate::parsing::faults::Fault;
-use crate::parsing::parts::{
+use crate::parsing::errors::WordError;
+use crate::parsing::operands::{
     alone, family_alone, family_and_key, number_alone, pin_and_key, put, set,
 };
 use crate::parsing::verbs::{Verb, verb_of};
-use crate::scripts::BadKind;
+use crate::scripts::{BadKind, MAX_COMMANDS};
 use std::alloc::Global;
-
-/// The greatest number of command lines of a script.
-const GREATEST_COMMANDS: usize = 500_000;
 
 fn is_built(command: &Command) -> bool
     ensures { result ≡ is_built command.now }
@@ -34,7 +31,7 @@ fn may_run(lane: u8, command: &Command) -> bool
 }
 
 #[tactic(auto, unfolding(crate::specs::Commands::of_verb))]
-fn of_verb(alloc: Global, verb: Verb, words: &[&[u8]]) -> Result<Command, Fault>
+fn of_verb(alloc: Global, verb: Verb, words: &[&[u8]]) -> Result<Command, WordError>
     ensures { Gives result (of_verb verb (map (λ word. word.now) words.now)) }
 {
     match verb {
@@ -70,33 +67,33 @@ fn of_verb(alloc: Global, verb: Verb, words: &[&[u8]]) -> Result<Command, Fault>
 }
 
 #[tactic(auto, unfolding(crate::specs::Commands::command_of))]
-fn command_of(alloc: Global, words: &[&[u8]]) -> Result<Command, Fault>
+fn command_of(alloc: Global, words: &[&[u8]]) -> Result<Command, WordError>
     ensures { Gives result (command_of (map (λ word. word.now) words.now)) }
 {
     let Some((word, words)) = words.split_first() else {
-        return Err(Fault::Bad(BadKind::Command));
+        return Err(WordError::Bad(BadKind::Command));
     };
     let Some(verb) = verb_of(word) else {
-        return Err(Fault::Bad(BadKind::Command));
+        return Err(WordError::Bad(BadKind::Command));
     };
     of_verb(alloc, verb, words)
 }
 
 #[tactic(auto, unfolding(crate::specs::Script::lane_and_command))]
-fn lane_and_command(alloc: Global, words: &[&[u8]]) -> Result<(u8, Command), Fault>
+fn lane_and_command(alloc: Global, words: &[&[u8]]) -> Result<(u8, Command), WordError>
     ensures { Gives result (lane_and_command (map (λ word. word.now) words.now)) }
 {
     let Some((word, words)) = words.split_first() else {
-        return Err(Fault::Bad(BadKind::Lane));
+        return Err(WordError::Bad(BadKind::Lane));
     };
     let Some(lane) = lane_of(word) else {
-        return Err(Fault::Bad(BadKind::Lane));
+        return Err(WordError::Bad(BadKind::Lane));
     };
     let command = command_of(alloc, words)?;
     if may_run(lane, &command) {
         Ok((lane, command))
     } else {
-        Err(Fault::Bad(BadKind::Unbuilt))
+        Err(WordError::Bad(BadKind::Unbuilt))
     }
 }
 
@@ -106,11 +103,11 @@ pub(crate) fn command_line(
     alloc: Global,
     before: usize,
     words: &[&[u8]],
-) -> Result<(u8, Command), Fault>
+) -> Result<(u8, Command), WordError>
     ensures { Gives result (command_line before (map (λ word. word.now) words.now)) }
 {
-    if before >= GREATEST_COMMANDS {
-        return Err(Fault::Bad(BadKind::Commands));
+    if before >= MAX_COMMANDS {
+        return Err(WordError::Bad(BadKind::Commands));
     }
     lane_and_command(alloc, words)
 }

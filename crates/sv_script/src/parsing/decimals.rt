@@ -2,6 +2,11 @@
 ghost use Rattle.std.specs.Prelude.{◌≡◌};
 ghost use Rattle.sv_script.specs.Numbers.{lane_of, number_of, with_digit};
 
+use crate::scripts::MAX_LANES;
+
+// The greatest number of digits of a number.
+const MAX_DIGITS: usize = 20;
+
 // The number with one more digit, where it is a digit and the number fits.
 fn with_digit(value: u64, digit: u8) -> Option<u64>
     ensures { result ≡ with_digit value digit }
@@ -18,7 +23,7 @@ pub(crate) fn number_of(word: &[u8]) -> Option<u64>
     if word.is_empty() {
         return None;
     }
-    if word.len() > 20 {
+    if word.len() > MAX_DIGITS {
         return None;
     }
     let mut value = 0;
@@ -33,7 +38,7 @@ pub(crate) fn lane_of(word: &[u8]) -> Option<u8>
     ensures { result ≡ lane_of word.now }
 {
     let number = number_of(word)?;
-    if (1..=32).contains(&number) {
+    if (1..=u64::from(MAX_LANES)).contains(&number) {
         Some(number as u8)
     } else {
         None

@@ -17,24 +17,18 @@ ghost use Rattle.sv_script.specs.declared.scripts.BadKind.TheVariants as kinds;
 ghost use Rattle.sv_script.specs.Items.{
   before,
   hex_value,
-  is_plain,
   item_of,
   item_text,
   pair_value,
   units_of,
 };
-ghost use Rattle.sv_script.specs.Parts.{Gives, or_bad};
+ghost use Rattle.sv_script.specs.Reading.{Gives, or_bad};
 
-use crate::parsing::faults::Fault;
+use crate::parsing::errors::WordError;
+use crate::plain_bytes::is_plain;
 use crate::scripts::BadKind;
 use std::alloc::Global;
 use sv_model::Items;
-
-fn is_plain(byte: u8) -> bool
-    ensures { result ≡ is_plain byte }
-{
-    matches!(byte, 0x21..=0x7E) && byte != b'%'
-}
 
 fn hex_value(digit: u8) -> Option<u8>
     ensures value { result ≡ hex_value digit }
@@ -85,14 +79,14 @@ fn first_unit(bytes: &[u8]) -> Option<(u8, &[u8])>
     }
 }
 
-fn units(alloc: Global, word: &[u8]) -> Result<Items<u8>, Fault>
+fn units(alloc: Global, word: &[u8]) -> Result<Items<u8>, WordError>
     ensures { Gives result (or_bad kinds.Item (units_of word.now)) }
 {
     let mut bytes = Items::from_vec(Vec::with_capacity(alloc, word.len())?);
     let mut rest = word;
     while !rest.is_empty() {
         let Some((byte, left)) = first_unit(rest) else {
-            return Err(Fault::Bad(BadKind::Item));
+            return Err(WordError::Bad(BadKind::Item));
         };
         bytes.push(byte)?;
         rest = left;
@@ -101,11 +95,11 @@ fn units(alloc: Global, word: &[u8]) -> Result<Items<u8>, Fault>
 }
 
 #[tactic(auto, unfolding(crate::specs::Items::item_of))]
-pub(crate) fn item(alloc: Global, word: &[u8]) -> Result<Items<u8>, Fault>
+pub(crate) fn item(alloc: Global, word: &[u8]) -> Result<Items<u8>, WordError>
     ensures { Gives result (or_bad kinds.Item (item_of word.now)) }
 {
     match word {
-        [] => Err(Fault::Bad(BadKind::Item)),
+        [] => Err(WordError::Bad(BadKind::Item)),
         [b'%'] => Ok(Items::from_vec(Vec::new(alloc))),
         _ => units(alloc, word),
     }

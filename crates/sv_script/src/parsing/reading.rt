@@ -1,68 +1,53 @@
 // Reading a script line by line.
-ghost use Rattle.std.specs.Prelude.{
-  ◌≡◌,
-  ◌<◌,
-  ◌+◌,
-  ◌^◌,
-  ◌++◌,
-  ◌∷◌,
-  [],
-  map,
-  OnOk,
-  OnErr,
-  IfErr,
-  IfOk,
-};
+ghost use Rattle.std.specs.Prelude.{◌≡◌, ◌<◌, ◌+◌, ◌^◌, map, OnOk, IfErr, IfOk};
 ghost use Rattle.std.specs.Str.Lines.{strip_carriage_return};
-ghost use Rattle.sv_script.specs.LineFaults.{error_at};
-ghost use Rattle.sv_script.specs.Progress.{GoesOn, StopsAt, finish, finish_at};
+ghost use Rattle.sv_script.specs.Progress.{GoesOn, StopsAt};
+ghost use Rattle.sv_script.specs.Reading.{error_at};
 ghost use Rattle.sv_script.specs.Script.{IsParsed, lanes_of, script_of};
 ghost use Rattle.sv_script.specs.ScriptLaws.{IsWellFormed};
 ghost use Rattle.sv_script.specs.Words.{words_of};
 
 use crate::parsing::command_lines::command_line;
-use crate::parsing::faults::Fault;
+use crate::parsing::errors::WordError;
 use crate::parsing::line_kinds::{is_phase_end, is_skipped};
 use crate::parsing::progress::Progress;
 use crate::parsing::splitting::{without_return, words};
-use crate::scripts::{BadLine, Line, Script, ScriptError};
+use crate::scripts::{BadLine, Line, MAX_PHASES, Script, ScriptError};
 use std::alloc::Global;
-use sv_model::Items;
+use sv_model::{Items, OutOfMemory};
 
-fn at_line(line: u64, fault: Fault) -> ScriptError
-    ensures { result ≡ error_at line fault }
+fn at_line(line: u64, error: WordError) -> ScriptError
+    ensures { result ≡ error_at line error }
 {
-    match fault {
-        Fault::Bad(kind) => ScriptError::Bad(BadLine { line, kind }),
-        Fault::Memory => ScriptError::OutOfMemory,
+    match error {
+        WordError::Bad(kind) => ScriptError::Bad(BadLine { line, kind }),
+        WordError::OutOfMemory => ScriptError::OutOfMemory,
     }
 }
 
 // Takes a line by its words.
 fn take(alloc: Global, read: &mut Progress, words: &[&[u8]]) -> Result<(), ScriptError>
+    requires { read.old.number + 1 < 2 ^ 64 }
     ensures goes_on { OnOk result (GoesOn read.old (map (λ word. word.now) words.now) read.new) }
     ensures stops { IfErr result (StopsAt read.old (map (λ word. word.now) words.now)) }
 {
-    // A slice has fewer lines than a u64 counts, so the refusal here is never met.
     let number = read.number;
-    let Some(next) = number.checked_add(1) else {
-        return Err(ScriptError::OutOfMemory);
-    };
     if is_skipped(words) {
-        read.number = next;
+        read.number = number + 1;
         return Ok(());
     }
     if is_phase_end(words) {
-        if read.phase >= u32::MAX - 1 {
+        // No `Script` tells so many phases. A script that has them is above 24 GiB.
+        if read.phase + 1 == MAX_PHASES {
             return Err(ScriptError::OutOfMemory);
         }
         read.phase += 1;
-        read.number = next;
+        read.number = number + 1;
         return Ok(());
     }
-    let (lane, command) = match command_line(alloc, read.lines.len(), words) {
+    let (lane, command) = match command_line(alloc, read.lines.as_slice().len(), words) {
         Ok(lane_and_command) => lane_and_command,
-        Err(fault) => return Err(at_line(number, fault)),
+        Err(error) => return Err(at_line(number, error)),
     };
     let line = Line {
         line: number,
@@ -70,21 +55,20 @@ fn take(alloc: Global, read: &mut Progress, words: &[&[u8]]) -> Result<(), Scrip
         phase: read.phase,
         command,
     };
-    let Ok(()) = read.lines.push(line) else {
-        return Err(ScriptError::OutOfMemory);
-    };
-    read.number = next;
+    read.lines.push(line)?;
+    read.number = number + 1;
     Ok(())
 }
 
 // Takes a line by its bytes.
 fn take_line(alloc: Global, read: &mut Progress, line: &[u8]) -> Result<(), ScriptError>
+    requires { read.old.number + 1 < 2 ^ 64 }
     ensures goes_on { OnOk result (GoesOn read.old (words_of (strip_carriage_return line.now)) read.new) }
     ensures stops { IfErr result (StopsAt read.old (words_of (strip_carriage_return line.now))) }
 {
     match words(alloc, without_return(line)) {
         Ok(words) => take(alloc, read, words.as_slice()),
-        Err(_) => Err(ScriptError::OutOfMemory),
+        Err(error) => Err(ScriptError::from(OutOfMemory::from(error))),
     }
 }
 
@@ -105,7 +89,7 @@ fn script_from(alloc: Global, bytes: &[u8]) -> Result<Script, ScriptError>
     let mut read = Progress {
         number: 1,
         phase: 0,
-        lines: Vec::new(alloc),
+        lines: Items::from_vec(Vec::new(alloc)),
     };
     for line in bytes.split(|byte| *byte == b'\n') {
         take_line(alloc, &mut read, line)?;
@@ -113,12 +97,12 @@ fn script_from(alloc: Global, bytes: &[u8]) -> Result<Script, ScriptError>
     Ok(Script {
         lanes: lanes_of(read.lines.as_slice()),
         phases: read.phase + 1,
-        lines: Items::from_vec(read.lines),
+        lines: read.lines,
     })
 }
 
 /// The script that the bytes are, or its first bad line. `OutOfMemory` also stands for a script of more than
-/// 4,294,967,295 phases, which has at least 24 GiB.
+/// 4,294,967,295 phases, which has more than 24 GiB and whose phases no `Script` can tell.
 pub fn parse(alloc: Global, bytes: &[u8]) -> Result<Script, ScriptError>
     ensures script { IsParsed (script_of bytes.now) result }
     ensures well_formed { IfOk result (λ script. IsWellFormed script) }

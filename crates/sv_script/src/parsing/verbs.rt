@@ -1,9 +1,9 @@
 // The words that name commands.
-ghost use Rattle.std.specs.Prelude.{◌≡◌};
+ghost use Rattle.std.specs.Prelude.{◌≡◌, map};
 ghost use Rattle.std.specs.Str.{bytes_eq};
-ghost use Rattle.sv_script.specs.Commands.{verb_of};
+ghost use Rattle.sv_script.specs.Commands.{named_by, verb_of};
 
-/// What the word after the lane's number names.
+// What the word after the lane's number names.
 #[derive(Clone, Copy, Debug, PartialEq, Eq)]
 pub(crate) enum Verb {
     Put,
@@ -33,49 +33,44 @@ pub(crate) fn is_word(word: &[u8], text: &[u8]) -> bool
     word == text
 }
 
+// The words that name commands.
+const VERBS: [(&[u8], Verb); 19] = [
+    (b"put", Verb::Put),
+    (b"delete", Verb::Delete),
+    (b"get", Verb::Get),
+    (b"getp", Verb::Getp),
+    (b"flush", Verb::Flush),
+    (b"compact", Verb::Compact),
+    (b"create", Verb::Create),
+    (b"open", Verb::Open),
+    (b"release", Verb::Release),
+    (b"drop", Verb::Drop),
+    (b"set", Verb::Set),
+    (b"pin", Verb::Pin),
+    (b"unpin", Verb::Unpin),
+    (b"hold", Verb::Hold),
+    (b"unhold", Verb::Unhold),
+    (b"live", Verb::Live),
+    (b"purge", Verb::Purge),
+    (b"scan", Verb::Scan),
+    (b"rest", Verb::Rest),
+];
+
+// What stands beside the word in the table.
+fn named_by(table: &[(&[u8], Verb)], word: &[u8]) -> Option<Verb>
+    ensures { result ≡ named_by (map (λ named. (named.0.now, named.1)) table.entry.now) word.now }
+{
+    for named in table {
+        if is_word(word, named.0) {
+            return Some(named.1);
+        }
+    }
+    None
+}
+
 #[tactic(auto, unfolding(crate::specs::Commands::verb_of))]
 pub(crate) fn verb_of(word: &[u8]) -> Option<Verb>
     ensures { result ≡ verb_of word.now }
 {
-    if is_word(word, b"put") {
-        Some(Verb::Put)
-    } else if is_word(word, b"delete") {
-        Some(Verb::Delete)
-    } else if is_word(word, b"get") {
-        Some(Verb::Get)
-    } else if is_word(word, b"getp") {
-        Some(Verb::Getp)
-    } else if is_word(word, b"flush") {
-        Some(Verb::Flush)
-    } else if is_word(word, b"compact") {
-        Some(Verb::Compact)
-    } else if is_word(word, b"create") {
-        Some(Verb::Create)
-    } else if is_word(word, b"open") {
-        Some(Verb::Open)
-    } else if is_word(word, b"release") {
-        Some(Verb::Release)
-    } else if is_word(word, b"drop") {
-        Some(Verb::Drop)
-    } else if is_word(word, b"set") {
-        Some(Verb::Set)
-    } else if is_word(word, b"pin") {
-        Some(Verb::Pin)
-    } else if is_word(word, b"unpin") {
-        Some(Verb::Unpin)
-    } else if is_word(word, b"hold") {
-        Some(Verb::Hold)
-    } else if is_word(word, b"unhold") {
-        Some(Verb::Unhold)
-    } else if is_word(word, b"live") {
-        Some(Verb::Live)
-    } else if is_word(word, b"purge") {
-        Some(Verb::Purge)
-    } else if is_word(word, b"scan") {
-        Some(Verb::Scan)
-    } else if is_word(word, b"rest") {
-        Some(Verb::Rest)
-    } else {
-        None
-    }
+    named_by(&VERBS, word)
 }

@@ -1,21 +1,22 @@
 // The pieces of which texts are made.
 ghost use Rattle.std.specs.Prelude.{◌≡◌, ◌++◌, ◌/◌, ◌%◌, ◌<◌, OnOk, decimal, flat_map};
-ghost use Rattle.sv_script.specs.Items.{hex_digit, is_plain, byte_text, item_text};
+ghost use Rattle.sv_script.specs.Items.{hex_digit, byte_text, item_text};
 ghost use Rattle.sv_script.specs.Texts.{numbered, listed};
 
+use crate::plain_bytes::is_plain;
 use sv_model::{FileNumber, OutOfMemory};
 
-/// Appends the bytes.
-pub fn push_bytes(out: &mut Vec<u8>, bytes: &[u8]) -> Result<(), OutOfMemory>
+// Appends the bytes.
+pub(crate) fn push_bytes(out: &mut Vec<u8>, bytes: &[u8]) -> Result<(), OutOfMemory>
     ensures { OnOk result (out.new.items ≡ out.old.items ++ bytes.now) }
 {
     out.extend_from_slice(bytes)?;
     Ok(())
 }
 
-/// Appends the number in decimal.
+// Appends the number in decimal.
 #[tactic(auto, using(std::proofs::lemmas::Fmt::decimal_step, std::proofs::lemmas::Fmt::decimal_digit))]
-pub fn push_number(out: &mut Vec<u8>, n: u64) -> Result<(), OutOfMemory>
+pub(crate) fn push_number(out: &mut Vec<u8>, n: u64) -> Result<(), OutOfMemory>
     ensures { OnOk result (out.new.items ≡ out.old.items ++ decimal n) }
 {
     if n < 10 {
@@ -27,18 +28,18 @@ pub fn push_number(out: &mut Vec<u8>, n: u64) -> Result<(), OutOfMemory>
     Ok(())
 }
 
-/// Appends the word and the number.
+// Appends the word and the number.
 #[tactic(auto, unfolding(crate::specs::Texts::numbered))]
-pub fn push_numbered(out: &mut Vec<u8>, word: &[u8], n: u64) -> Result<(), OutOfMemory>
+pub(crate) fn push_numbered(out: &mut Vec<u8>, word: &[u8], n: u64) -> Result<(), OutOfMemory>
     ensures { OnOk result (out.new.items ≡ out.old.items ++ numbered word.now n) }
 {
     push_bytes(out, word)?;
     push_number(out, n)
 }
 
-/// Appends each number, preceded by one space.
+// Appends each number, preceded by one space.
 #[tactic(auto, unfolding(crate::specs::Texts::listed))]
-pub fn push_listed(out: &mut Vec<u8>, numbers: &[u64]) -> Result<(), OutOfMemory>
+pub(crate) fn push_listed(out: &mut Vec<u8>, numbers: &[u64]) -> Result<(), OutOfMemory>
     ensures { OnOk result (out.new.items ≡ out.old.items ++ listed numbers.now) }
 {
     for n in numbers {
@@ -47,21 +48,15 @@ pub fn push_listed(out: &mut Vec<u8>, numbers: &[u64]) -> Result<(), OutOfMemory
     Ok(())
 }
 
-/// Appends the number of each file, preceded by one space.
+// Appends the number of each file, preceded by one space.
 #[tactic(auto, unfolding(crate::specs::Texts::listed))]
-pub fn push_files(out: &mut Vec<u8>, numbers: &[FileNumber]) -> Result<(), OutOfMemory>
+pub(crate) fn push_files(out: &mut Vec<u8>, numbers: &[FileNumber]) -> Result<(), OutOfMemory>
     ensures { OnOk result (out.new.items ≡ out.old.items ++ listed numbers.now) }
 {
     for number in numbers {
         push_numbered(out, b" ", number.0)?;
     }
     Ok(())
-}
-
-fn is_plain(byte: u8) -> bool
-    ensures { result ≡ is_plain byte }
-{
-    matches!(byte, 0x21..=0x7E) && byte != b'%'
 }
 
 fn hex_digit(n: u8) -> u8
@@ -90,8 +85,8 @@ fn push_each(out: &mut Vec<u8>, bytes: &[u8]) -> Result<(), OutOfMemory>
     Ok(())
 }
 
-/// Appends the bytes as an item.
-pub fn push_item(out: &mut Vec<u8>, bytes: &[u8]) -> Result<(), OutOfMemory>
+// Appends the bytes as an item.
+pub(crate) fn push_item(out: &mut Vec<u8>, bytes: &[u8]) -> Result<(), OutOfMemory>
     ensures { OnOk result (out.new.items ≡ out.old.items ++ item_text bytes.now) }
 {
     match bytes {

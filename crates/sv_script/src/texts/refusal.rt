@@ -36,6 +36,10 @@ fn refusal_head(refusal: Refusal) -> &'static [u8]
         Refusal::Busy { .. } => b"refused 23 Busy",
         Refusal::NothingToCompact => b"refused 24 NothingToCompact",
         Refusal::TooManyHolds => b"refused 25 TooManyHolds",
+        Refusal::TooManySnapshots => b"refused 26 TooManySnapshots",
+        Refusal::NoSnapshot => b"refused 27 NoSnapshot",
+        Refusal::NoIterator => b"refused 28 NoIterator",
+        Refusal::NoHandle { .. } => b"refused 29 NoHandle",
         Refusal::OutOfMemory => b"no memory",
     }
 }
@@ -56,13 +60,14 @@ fn push_fields(out: &mut Vec<u8>, refusal: Refusal) -> Result<(), OutOfMemory>
         Refusal::Disabled { count } => push_listed(out, &[count]),
         Refusal::DirFault { number } | Refusal::Busy { number } => push_listed(out, &[number]),
         Refusal::BadFile { number, place } => push_listed(out, &[number, place]),
+        Refusal::NoHandle { index } => push_listed(out, &[index]),
         _ => Ok(()),
     }
 }
 
-/// Appends the refusal.
+// Appends the refusal.
 #[tactic(auto, unfolding(crate::specs::RefusalTexts::refusal_text))]
-pub fn push_refusal(out: &mut Vec<u8>, refusal: Refusal) -> Result<(), OutOfMemory>
+pub(crate) fn push_refusal(out: &mut Vec<u8>, refusal: Refusal) -> Result<(), OutOfMemory>
     ensures { OnOk result (out.new.items ≡ out.old.items ++ refusal_text refusal) }
 {
     push_bytes(out, refusal_head(refusal))?;

@@ -77,9 +77,9 @@ fn push_answer(out: &mut Vec<u8>, reply: &Reply) -> Result<(), OutOfMemory>
     }
 }
 
-/// Appends the line of a reply.
+// Appends the line of a reply.
 #[tactic(auto, unfolding(crate::specs::ReplyTexts::reply_text))]
-pub fn push_reply(out: &mut Vec<u8>, line: u64, reply: &Reply) -> Result<(), OutOfMemory>
+pub(crate) fn push_reply(out: &mut Vec<u8>, line: u64, reply: &Reply) -> Result<(), OutOfMemory>
     ensures { OnOk result (out.new.items ≡ out.old.items ++ reply_text line reply.now) }
 {
     push_number(out, line)?;

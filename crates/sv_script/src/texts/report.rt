@@ -1,6 +1,20 @@
 // The text of a report.
 ghost use Rattle.std.specs.Prelude.{◌≡◌, ◌++◌, OnOk, IfOk, flat_map};
-ghost use Rattle.sv_script.specs.ReportTexts.{end_text, family_counts, family_head, family_text, files_text, lane_text, last_files, report_text, standing_text, strays_text, summary_text, tail_text, totals_text};
+ghost use Rattle.sv_script.specs.ReportTexts.{
+  end_text,
+  family_counts,
+  family_head,
+  family_text,
+  files_text,
+  lane_text,
+  last_files,
+  report_text,
+  standing_text,
+  strays_text,
+  summary_text,
+  tail_text,
+  totals_text,
+};
 ghost use Rattle.sv_script.specs.ReplyTexts.{reply_text};
 
 use crate::replies::{LaneReport, Reply, Tail};

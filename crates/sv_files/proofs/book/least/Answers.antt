@@ -1,6 +1,6 @@
 use Rattle.std.proofs.Common.{ℕ, ◌≤◌, List, [], ◌∷◌, Option, Some, None, arith}
 use Rattle.std.proofs.lemmas.List.{at_drop_all}
-use Rattle.sv_files.specs.Calls.{least_captured}
+use Rattle.sv_model.specs.Numbers.{least_captured}
 use Rattle.sv_files.proofs.book.least.Goals as goal
 
 least_captured-le : (captured : List (Option ℕ)) → least_captured captured ≤ 18446744073709551615

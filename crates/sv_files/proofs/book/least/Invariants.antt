@@ -1,5 +1,5 @@
 use Rattle.std.proofs.Common.{◌≡◌, ◌≤◌, min, drop}
-use Rattle.sv_files.specs.Calls.{least_captured}
+use Rattle.sv_model.specs.Numbers.{least_captured}
 use Rattle.sv_files.proofs.book.least.Given as goal
 
 -- the least so far, and the least of those still to come

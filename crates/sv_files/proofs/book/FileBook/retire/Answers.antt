@@ -1,18 +1,24 @@
-use Rattle.std.proofs.Common.{◌≡◌, sym, ◌∙◌}
-use Rattle.sv_model.specs.declared.records.FileStatus.TheVariants.{Pending, Live, Obsolete, Gone}
-use Rattle.sv_files.proofs.KeptLemmas.{kept_number}
-use Rattle.sv_files.proofs.Books.{book_mark, marks_is, registered_here, marks_there}
+use Rattle.std.proofs.Common.{◌≡◌, ℕ, sym, ◌∙◌}
+use Rattle.sv_model.specs.Books.{FileRegister}
+use Rattle.sv_model.specs.declared.records.FileStatus.TheVariants.{Pending, Live, Obsolete, Grabbed}
+use Rattle.sv_model.specs.Numbers.{IsRegistered, MarksOnly}
+use Rattle.sv_files.proofs.Registered.{registered-some}
+use Rattle.sv_files.proofs.BookLaws.{book-marked, here, marks-only, there}
 use Rattle.sv_files.proofs.book.FileBook.retire.Goals as goal
+
+pub mark-requires : goal.mark-requires
+mark-requires c =
+    registered-some c.self.inside.numbers c.number.inside.0 Live (here (λ n r. IsRegistered r.numbers n Live) c.self.view_is c.number.view_is c.requires)
 
 pub invariant_of-self : goal.invariant_of-self
 invariant_of-self c =
-    let x = c.index_mut.result.now in
-    let at = kept_number c.self.inside.kept c.self.inside.numbers.items c.self.inside.captured c.self.inside.next c.number.inside.0 c.position-at.result Live x c.self.invariant.positions c.self.invariant.laws c.position-at.ensures (registered_here Live c.self.view_is c.number.view_is c.requires) c.index_mut.ensures.value in
-    book_mark c.self.inside.numbers.items c.self.inside.kept c.self.inside.captured c.self.inside.made c.self.inside.next c.position-at.result x Obsolete c.self.invariant at.0
-    (λ e. (let both : Live ≡ Pending = sym at.1.status_is ∙ e in cc)) (λ e. (let both : Live ≡ Gone = sym at.1.status_is ∙ e in cc)) (λ e. (let both : Obsolete ≡ Pending = e in cc)) (λ e. (let both : Obsolete ≡ Gone = e in cc))
+    book-marked _ c.self.inside.made c.number.inside.0 c.mark.result.status Live Obsolete c.mark.new.self c.self.invariant c.mark.ensures.marked.0 (here (λ n r. IsRegistered r.numbers n Live) c.self.view_is c.number.view_is c.requires)
+    (λ e. cc) (λ e. cc) (λ e. absurd (obsolete_grabbed e))
+  where
+    obsolete_grabbed : Obsolete ≡ Grabbed → ⊥
+    obsolete_grabbed e = cc
 
 pub returns : goal.returns
 returns c =
-    let x = c.index_mut.result.now in
-    let at = kept_number c.self.inside.kept c.self.inside.numbers.items c.self.inside.captured c.self.inside.next c.number.inside.0 c.position-at.result Live x c.self.invariant.positions c.self.invariant.laws c.position-at.ensures (registered_here Live c.self.view_is c.number.view_is c.requires) c.index_mut.ensures.value in
-    marks_there Live Obsolete _ c.self.view_is c.number.view_is (marks_is _ c.number.inside.0 c.position-at.result x Live Obsolete at.0 at.1)
+    there (λ n r new. MarksOnly n Live Obsolete r new) _ c.self.view_is c.number.view_is
+    (marks-only _ c.self.inside.made c.number.inside.0 c.mark.result.status Live Obsolete c.mark.new.self c.self.invariant c.mark.ensures.marked.0 (here (λ n r. IsRegistered r.numbers n Live) c.self.view_is c.number.view_is c.requires))

@@ -1,7 +1,7 @@
 -- A write keeps what holds of the store.
 use Rattle.std.proofs.Common.{◌≡◌, ◌∷◌, ◌++◌, [], List, length, arith, sym, ap, subst, ◌∙◌, refl}
 use Rattle.sv_model.specs.declared.Write.{Write}
-use Rattle.sv_memtable.specs.Cell.{Cell}
+use Rattle.sv_model.specs.Cells.{Cell}
 use Rattle.sv_plain.specs.Stands.{Stands}
 use Rattle.sv_plain.specs.Views.{books_of}
 use Rattle.sv_plain.proofs.Appending.{appended, rows_counted}

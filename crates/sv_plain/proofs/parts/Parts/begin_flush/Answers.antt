@@ -1,7 +1,7 @@
 -- The number was captured for the file of all that waits.
 use Rattle.std.proofs.Common.{◌∷◌, ◌++◌, [], List, refl, sym, ap, subst, ◌∙◌}
 use Rattle.sv_model.specs.declared.FileMeta.{FileMeta}
-use Rattle.sv_model.specs.After.{After}
+use Rattle.sv_plain.specs.Follows.{Follows}
 use Rattle.sv_model.specs.Books.{FileRegister}
 use Rattle.sv_plain.specs.Views.{books_of}
 use Rattle.sv_plain.proofs.Planning.{after_capture, join_some}
@@ -17,7 +17,7 @@ returns-clause-began c = record {
     before = c.args.self.now.files;
     metas = c.args.self.now.metas.items;
     stands = c.requires.runs.stands;
-    below = c.next.ensures.laws.below;
+    below = c.laws.ensures.numbers.below;
     files_are = c.in_ok-number.ensures.captured.1;
     metas_are = c.push_reserved.ensures.items ∙ ap (λ (z : List FileMeta). z ++ c.file_over.result ∷ []) c.reserve.ensures.items ∙ ap (λ f. c.args.self.now.metas.items ++ f ∷ []) (c.file_over.ensures.is ∙ sym c.file_over-2.ensures.is);
     number = ap (λ (f : FileMeta). f.number) c.file_over-2.ensures.is ∙ c.number.view_is ∙ c.in_ok-number.ensures.captured.0;
@@ -34,6 +34,6 @@ returns-clause-began c = record {
 
 pub returns-clause-after : goal.returns-clause-after
 returns-clause-after c =
-    subst (λ (z : FileRegister). After (books_of c.args.self.now) (record (books_of c.args.self.now) { files = z; metas = c.push_reserved.new.self.items })) (sym c.in_ok-number.ensures.captured.1)
+    subst (λ (z : FileRegister). Follows (books_of c.args.self.now) (record (books_of c.args.self.now) { files = z; metas = c.push_reserved.new.self.items })) (sym c.in_ok-number.ensures.captured.1)
     (after_capture (books_of c.args.self.now) c.push_reserved.new.self.items c.file_over.result c.requires.runs.stands.tops
     (c.push_reserved.ensures.items ∙ ap (λ (z : List FileMeta). z ++ c.file_over.result ∷ []) c.reserve.ensures.items))

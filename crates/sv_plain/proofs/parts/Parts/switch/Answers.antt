@@ -2,6 +2,7 @@
 use Rattle.std.proofs.Common.{◌≡◌, ◌<◌, ◌+◌, ◌∷◌, ◌++◌, [], List, Some, length, arith, sym, ap, subst, ◌∙◌}
 use Rattle.sv_model.specs.declared.MemtableList.{MemtableList}
 use Rattle.sv_model.specs.declared.SuperVersion.{SuperVersion}
+use Rattle.sv_model.specs.Cells.{Cell}
 use Rattle.sv_model.specs.Registers.{entry}
 use Rattle.sv_model.proofs.Refusing.{none_due}
 use Rattle.sv_model.proofs.Registers.{entry-old}
@@ -68,8 +69,8 @@ made c = record {
   it_to = c.in_ok-it.ensures.to;
   it_id = c.in_ok-it.ensures.id;
   it_rows = c.in_ok-it.ensures.rows;
-  cell_id = c.new.ensures.id;
-  cell_rows = c.new.ensures.rows;
+  cell_id = ap (λ (x : Cell). x.id) c.new.ensures;
+  cell_rows = ap (λ (x : Cell). x.rows) c.new.ensures;
 }
   where
     made_by : (c : goal.After-self-3-1) → SwitchMade c.args.self.now.memtables c.args.self.now.lists c.args.self.now.registry c.args.self.now.list c.args.self.now.active.id c.args.self.now.last (length c.args.self.now.journal.items) c.make_switch.new.memtables c.make_switch.new.lists c.make_switch.new.registry c.in_ok-made.made

@@ -3,7 +3,7 @@ use Rattle.std.proofs.Common.{◌+◌, ℕ, List, length, refl, sym, subst}
 use Rattle.sv_model.specs.declared.FileStatus.TheVariants.{Pending}
 use Rattle.sv_model.specs.Books.{FileRegister}
 use Rattle.sv_model.specs.Lists.{In, Distinct}
-use Rattle.sv_files.specs.Calls.{IsRegistered}
+use Rattle.sv_model.specs.Numbers.{IsRegistered}
 use Rattle.sv_plain.specs.declared.immutables.Immutable.{Immutable}
 use Rattle.sv_plain.specs.Ended.{AreEnded}
 use Rattle.sv_plain.specs.Stands.{Stands}
@@ -47,7 +47,7 @@ steps c t = record {
   released = c.release-flushed.ensures;
   ended = subst (λ (l : List ℕ). AreEnded c.args.self.now.memtables l c.end_members.new.memtables) c.as_slice.ensures.value c.end_members.ensures;
   dropped = c.release.ensures;
-  settled = c.settle.ensures;
+  settled = settled_as _ true _ _ c.settle.ensures;
 }
 
 pub returns : goal.returns

@@ -1,5 +1,5 @@
 use Rattle.std.proofs.Common.{◌≡◌, drop}
-use Rattle.sv_script.proofs.Digits.{number_from}
+use Rattle.sv_script.proofs.NumberLemmas.{number_from}
 use Rattle.sv_script.proofs.parsing.decimals.number_of.Given as goal
 
 abbrev pub invariant-loop-byte : goal.invariant-loop-byte

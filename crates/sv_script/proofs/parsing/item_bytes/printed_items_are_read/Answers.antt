@@ -1,4 +1,4 @@
-use Rattle.sv_script.proofs.ItemTexts.{printed-again}
+use Rattle.sv_script.proofs.ItemLemmas.{printed-again}
 use Rattle.sv_script.proofs.parsing.item_bytes.printed_items_are_read.Goals as goal
 
 pub returns : goal.returns

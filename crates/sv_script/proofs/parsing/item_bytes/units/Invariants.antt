@@ -1,6 +1,6 @@
 use Rattle.std.proofs.Common.{◌≡◌, length}
 use Rattle.sv_script.specs.Items.{units_of}
-use Rattle.sv_script.proofs.UnitsRead.{with_front}
+use Rattle.sv_script.proofs.UnitLemmas.{with_front}
 use Rattle.sv_script.proofs.parsing.item_bytes.units.Given as goal
 
 abbrev pub invariant-loop-rest : goal.invariant-loop-rest

@@ -1,4 +1,4 @@
-use Rattle.sv_script.proofs.ScriptLines.{parsed_well}
+use Rattle.sv_script.proofs.WellFormedLemmas.{parsed_well}
 use Rattle.sv_script.proofs.parsing.reading.parse.Goals as goal
 
 pub returns-clause-well_formed : goal.returns-clause-well_formed

@@ -6,4 +6,10 @@ use Rattle.sv_script.proofs.parsing.splitting.words.Goals as goal
 
 pub returns : goal.returns
 unfolding words_of
-returns c = map_from_collect _ c.collect.ensures.ran (YieldsList-from_filter _ _ (YieldsList-at c.filter.ensures.source (YieldsList-from_slice_split _ _ c.args.line.now c.split.ensures.rest c.split.ensures.done c.split.ensures.closure (λ x r q k. search (rules, tests)))) c.filter.ensures.closure (λ x r q k. search (rules, tests)))
+returns c =
+    map_from_collect _ c.collect.ensures.ran
+    (YieldsList-from_filter _ _
+    (YieldsList-at c.filter.ensures.source
+    (YieldsList-from_slice_split _ _ c.args.line.now c.split.ensures.rest c.split.ensures.done
+    c.split.ensures.closure (λ x r q k. search (rules, tests))))
+    c.filter.ensures.closure (λ x r q k. search (rules, tests)))

@@ -6,5 +6,11 @@ use Rattle.sv_script.proofs.texts.report.push_totals.Goals as goal
 pub returns : goal.returns
 unfolding totals_text
 returns c =
-    rw (c.in_ok-push_bytes-2.ensures, c.in_ok-push_numbered-3.ensures, c.in_ok-push_numbered-2.ensures, c.in_ok-push_numbered.ensures, c.in_ok-push_bytes.ensures)
+    rw (
+      c.in_ok-push_bytes-2.ensures,
+      c.in_ok-push_numbered-3.ensures,
+      c.in_ok-push_numbered-2.ensures,
+      c.in_ok-push_numbered.ensures,
+      c.in_ok-push_bytes.ensures,
+    )
     (simp append_assoc)

@@ -1,7 +1,0 @@
--- What a memtable is for contracts: which one it is, and its rows in the order in which they were added.
-use Rattle.std.specs.Prelude.{ℕ, List}
-use Rattle.sv_model.specs.declared.Row.{Row}
-
-pub record Cell : Type 0 where
-  pub id : ℕ
-  pub rows : List Row
