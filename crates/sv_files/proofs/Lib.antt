@@ -3,7 +3,9 @@ mod BookLaws
 mod Choosing
 mod GrabLaws
 mod Keeping
+mod NamedLaws
 mod NumbersLaws
 mod Registered
 mod Rising
+mod ScanLaws
 mod StrayLaws

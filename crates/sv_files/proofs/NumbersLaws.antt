@@ -1,5 +1,5 @@
 -- The laws of file numbers are kept by a new status, by the end of a capture and by a capture.
-use Rattle.std.proofs.Common.{◌≡◌, ◌≢◌, ◌<◌, ◌≤◌, ℕ, zero, suc, ◌+◌, ◌⊎◌, inl, inr, ⊎_elim, true, false, List, [], ◌∷◌, ◌++◌, length, Option, Some, None, is_some, slice_get, set, refl, sym, ap, ◌∙◌, subst, arith, length-set}
+use Rattle.std.proofs.Common.{◌≡◌, ◌≢◌, ◌<◌, ◌≤◌, ℕ, zero, suc, ◌+◌, replicate, ◌⊎◌, inl, inr, ⊎_elim, true, false, List, [], ◌∷◌, ◌++◌, length, Option, Some, None, is_some, slice_get, set, refl, sym, ap, ◌∙◌, subst, arith, length-set}
 use Rattle.std.proofs.lemmas.Bool.{false≢true}
 use Rattle.sv_model.specs.declared.records.RegisteredFile.{RegisteredFile}
 use Rattle.sv_model.specs.declared.records.FileStatus.{FileStatus}
@@ -182,3 +182,29 @@ module _ (N : List RegisteredFile) (C : List (Option ℕ)) (next f : ℕ) (law :
 
       pending_grabbed : Pending ≡ Grabbed → ⊥
       pending_grabbed e = cc
+
+-- ---- no number yet
+pub numbers-none : (next : ℕ) → 1 ≤ next → next ≤ 18446744073709551615 → NumbersStand [] (replicate 16 None) next
+numbers-none next least most = record {
+  once = λ n. omega arith;
+  below = λ i x e. none-entry i x e;
+  pending = λ i x e. none-entry i x e;
+  held = λ f n e. idle 16 f n e;
+  drawn = λ i x e. none-entry i x e;
+  grabbed = λ i x e. none-entry i x e;
+  least = least;
+  most = most;
+}
+  where
+    none-entry : {P : Type 0} (i : ℕ) (x : RegisteredFile) → entry [] i ≡ Some x → P
+    none-entry zero x e = absurd (cc)
+    none-entry (suc i) x e = absurd (cc)
+
+    idle : {P : Type 0} (k f n : ℕ) → slice_get (replicate k None) f ≡ Some (Some n) → P
+    idle zero f n e = absurd (cc)
+    idle (suc k) zero n e = absurd (let both : None ≡ Some n = some_is None (Some n) e in cc)
+    idle (suc k) (suc f) n e = idle k f n e
+
+-- a registered number is below the next one
+pub registered-below : (N : List RegisteredFile) (C : List (Option ℕ)) (next n : ℕ) (status : FileStatus) → NumbersStand N C next → IsRegistered N n status → n < next
+registered-below N C next n status law r = let b = law.below r.0 r.1 r.2 in omega (arith, r.3.number_is)

@@ -72,7 +72,7 @@ impl FileBook {
         requires { 1 ≤ next }
         ensures { result ≡ opened next [] }
     {
-        with_numbers(Numbers::new(alloc), 0, next)
+        with_numbers(Numbers::new(alloc), 0, raw(&next))
     }
 
     /// Exactly these numbers registered, each Live and as if its family had captured it.
@@ -89,7 +89,7 @@ impl FileBook {
         for (family, number) in files {
             numbers.push(number.0, FileStatus::Live, Some(*family))?;
         }
-        Ok(with_numbers(numbers, files.len(), next))
+        Ok(with_numbers(numbers, files.len(), raw(&next)))
     }
 
     /// What always holds of the register. Does nothing and takes no memory.
@@ -174,7 +174,7 @@ impl FileBook {
 }
 
 // A book of these numbers, of which so many were captured.
-fn with_numbers(numbers: Numbers, made: usize, next: FileNumber) -> FileBook
+fn with_numbers(numbers: Numbers, made: usize, next: u64) -> FileBook
     requires stand { FilesStand (opened next numbers) }
     requires made { made ≡ captures numbers }
     ensures { result ≡ opened next numbers }
@@ -185,8 +185,14 @@ fn with_numbers(numbers: Numbers, made: usize, next: FileNumber) -> FileBook
         holds: [0; LANES],
         jobs: 0,
         made,
-        next: next.0,
+        next,
     }
+}
+
+fn raw(number: &FileNumber) -> u64
+    ensures { result ≡ number.now }
+{
+    number.0
 }
 
 fn least(captured: &[Option<FileNumber>]) -> u64

@@ -1,16 +1,18 @@
 -- Rows by key are known by the rows of each key.
-use Rattle.std.proofs.Common.{◌≡◌, ℕ, suc, ◌<◌, ◌≤◌, inl, inr, Bool, true, false, cond, ◌&&◌, ◌||◌, nat_lt, List, [], ◌∷◌, length, refl, sym, ap, subst, ◌∙◌, arith}
+use Rattle.std.proofs.Common.{◌≡◌, ℕ, suc, ◌<◌, ◌≤◌, inl, inr, Bool, true, false, cond, ◌&&◌, ◌||◌, nat_lt, eqb, List, [], ◌∷◌, ◌++◌, length, Some, None, refl, sym, ap, subst, ◌∙◌, arith}
 use Rattle.std.specs.List.{filter, AllByRecursion}
-use Rattle.std.proofs.lemmas.Bool.{cases_Bool, or_cases, and_parts, and_from, or_left, lt-ltb, both_ways}
+use Rattle.std.proofs.lemmas.Bool.{cases_Bool, or_cases, and_parts, and_from, or_left, lt-ltb, eqb-true, eqb-false, both_ways}
 use Rattle.sv_model.specs.declared.writes.Kept.{Kept}
 use Rattle.sv_model.specs.Journal.{same_key}
 use Rattle.sv_model.specs.Order.{is_below, comes_before, OrderedFrom, OrderedBy, RisesFrom, RisesBy, key_of_kept, end_of_kept}
-use Rattle.sv_model.specs.Flat.{of_key}
-use Rattle.sv_model.proofs.KeyOrder.{not_true, same_eq, same_yes, below_trans, below_other, above, not_back}
+use Rattle.sv_model.specs.Flat.{of_key, without_last_deletes, stays}
+use Rattle.sv_model.proofs.FlatFirsts.{FallFrom, firsts}
+use Rattle.sv_model.proofs.FlatReads.{deletes_left}
+use Rattle.sv_model.proofs.KeyOrder.{not_true, same_eq, same_yes, same_no, below_trans, below_other, above, not_back}
 
 -- ---- keys that do not fall
 
-below_self : (a : List ℕ) → is_below a a ≡ false
+pub below_self : (a : List ℕ) → is_below a a ≡ false
 below_self a = not_true (is_below a a) (λ t. below_other a a t refl)
 
 pub not_below_trans : (a b c : List ℕ) → is_below a b ≡ false → is_below b c ≡ false → is_below a c ≡ false
@@ -39,6 +41,14 @@ pub rises_rest : (r : Kept) (rows : List Kept) → RisesFrom key_of_kept r rows 
 rises_rest r [] up = tt
 rises_rest r (x ∷ rows) up = up.1
 
+pub rises_as : (p q : Kept) (rows : List Kept) → p.row.key ≡ q.row.key → RisesFrom key_of_kept p rows → RisesFrom key_of_kept q rows
+rises_as p q [] e up = tt
+rises_as p q (r ∷ rows) e up = (subst (λ (k : List ℕ). is_below r.row.key k ≡ false) e up.0, up.1)
+
+pub rises_lower : (p q : Kept) (rows : List Kept) → is_below q.row.key p.row.key ≡ false → RisesFrom key_of_kept q rows → RisesFrom key_of_kept p rows
+rises_lower p q [] h up = tt
+rises_lower p q (r ∷ rows) h up = (not_below_trans r.row.key q.row.key p.row.key up.0 h, up.1)
+
 -- ---- the rows of a key
 
 pub key_yes : (key : List ℕ) (r : Kept) (rows : List Kept) → same_key key r.row.key ≡ true → of_key key (r ∷ rows) ≡ r ∷ of_key key rows
@@ -49,6 +59,16 @@ key_no key r rows e = ap (λ (b : Bool). cond b (r ∷ of_key key rows) (of_key 
 
 pub key_own : (r : Kept) (rows : List Kept) → of_key r.row.key (r ∷ rows) ≡ r ∷ of_key r.row.key rows
 key_own r rows = key_yes r.row.key r rows (same_yes r.row.key r.row.key refl)
+
+-- a key has no row behind one of a higher key
+pub gone : (key : List ℕ) (q : Kept) (rows : List Kept) → is_below key q.row.key ≡ true → RisesFrom key_of_kept q rows → of_key key rows ≡ []
+gone key q [] high up = refl
+gone key q (r ∷ rows) high up =
+    let higher : is_below key r.row.key ≡ true = elim (cases_Bool (same_key q.row.key r.row.key)) [
+      | inl same ↦ subst (λ (k : List ℕ). is_below key k ≡ true) (same_eq q.row.key r.row.key same) high
+      | inr other ↦ below_trans key q.row.key r.row.key high (above q.row.key r.row.key up.0 other)
+    ] in
+    key_no key r rows (same_no key r.row.key (below_other key r.row.key higher)) ∙ gone key r rows higher up.1
 
 -- a key that has rows is not below the one before
 later_not_below : (key : List ℕ) (last : Kept) (rows : List Kept) (z : Kept) (zs : List Kept) → RisesFrom key_of_kept last rows → of_key key rows ≡ z ∷ zs → is_below key last.row.key ≡ false
@@ -143,6 +163,38 @@ ordered_from last (r ∷ rows) up down =
 pub ordered_of_keys : (rows : List Kept) → RisesBy key_of_kept rows → ((key : List ℕ) → Drops (of_key key rows)) → OrderedBy key_of_kept end_of_kept rows
 ordered_of_keys [] up down = tt
 ordered_of_keys (r ∷ rows) up down = ordered_from r rows up down
+
+-- rows whose ends do not rise, of which the first of each end stay
+pub firsts_drop : (high : ℕ) (rows : List Kept) → FallFrom high rows → DropFrom high (firsts (Some high) rows)
+firsts_drop high [] fall = tt
+firsts_drop high (r ∷ rows) fall = elim (cases_Bool (eqb r.end high)) [
+  | inl same ↦
+      subst (DropFrom high) (sym (ap (λ (b : Bool). cond b (firsts (Some high) rows) (r ∷ firsts (Some r.end) rows)) same))
+      (firsts_drop high rows (subst (λ (k : ℕ). FallFrom k rows) (eqb-true r.end high same) fall.1))
+  | inr other ↦
+      let apart = eqb-false r.end high other in
+      subst (DropFrom high) (sym (ap (λ (b : Bool). cond b (firsts (Some high) rows) (r ∷ firsts (Some r.end) rows)) other))
+      (below_from r.end high fall.0 apart, firsts_drop r.end rows fall.1)
+]
+  where
+    below_from : (m n : ℕ) → m ≤ n → (m ≡ n → ⊥) → m < n
+    below_from m n le apart = omega arith
+
+pub firsts_drops : (high : ℕ) (rows : List Kept) → FallFrom high rows → Drops (firsts None rows)
+firsts_drops high [] fall = tt
+firsts_drops high (r ∷ rows) fall = firsts_drop r.end rows fall.1
+
+drop_front : (high : ℕ) (xs ys : List Kept) → DropFrom high (xs ++ ys) → DropFrom high xs
+drop_front high [] ys down = tt
+drop_front high (x ∷ xs) ys down = (down.0, drop_front x.end xs ys down.1)
+
+drops_front : (xs ys : List Kept) → Drops (xs ++ ys) → Drops xs
+drops_front [] ys down = tt
+drops_front (x ∷ xs) ys down = drop_front x.end xs ys down
+
+pub stays_drops : (last : Bool) (rows : List Kept) → Drops rows → Drops (stays last rows)
+stays_drops false rows down = down
+stays_drops true rows down = let split = deletes_left rows in drops_front (without_last_deletes rows) split.0 (subst Drops split.1 down)
 
 -- ---- how many
 

@@ -10,19 +10,40 @@ use Rattle.sv_model.specs.declared.writes.Numbered.{Numbered}
 use Rattle.sv_model.specs.declared.cuts.Bottom.{Bottom}
 use Rattle.sv_model.specs.Lists.{In}
 use Rattle.sv_model.specs.Journal.{same_key, is_delete, newest_row}
-use Rattle.sv_model.specs.Order.{key_of_kept}
-use Rattle.sv_model.specs.Flat.{numbered_after, of_key, ends_of, end_at, newest_in, newest_each, without_last_deletes, stays, IsFlatOf, AreCuts}
+use Rattle.sv_model.specs.Order.{RisesBy, key_of_kept}
+use Rattle.sv_model.specs.Flat.{numbered_after, of_key, ends_of, end_at, newest_in, newest_each, without_last_deletes, stays, IsFlatOf, CutsFrom, AreCuts}
 use Rattle.sv_model.proofs.KeyOrder.{same_yes}
 use Rattle.sv_model.proofs.FlatEnds.{Among, in_among, among_in, among_turned, at_first}
-use Rattle.sv_model.proofs.FlatFirsts.{is_last, firsts, mark, marks, has_key, NumbersFall, numbers_fall, newest_firsts}
+use Rattle.sv_model.proofs.FlatFirsts.{is_last, firsts, mark, marks, has_key, NumbersFall, numbers_fall, numbers_filter, marks_fall, newest_firsts}
 use Rattle.sv_model.proofs.FlatReads.{deletes_left, newest_upto, row_at, upto}
-use Rattle.sv_model.proofs.FlatKeys.{ordered_rises, one_list, all_of_keys, few_of_keys}
+use Rattle.sv_model.proofs.FlatKeys.{Drops, firsts_drops, stays_drops, ordered_of_keys, ordered_rises, one_list, all_of_keys, few_of_keys}
 
 -- ---- a range has one flat
 
 pub flat_one : (from to : ℕ) (bottom : Bottom) (writes : List Row) (xs ys : List Kept) → IsFlatOf from to bottom writes xs → IsFlatOf from to bottom writes ys → xs ≡ ys
 flat_one from to bottom writes xs ys f g =
     one_list xs ys (ordered_rises xs f.ordered) (ordered_rises ys g.ordered) (λ key. f.newest key ∙ sym (g.newest key))
+
+-- ---- rows by key that are a flat's
+
+each_drops : (from to : ℕ) (cuts : List ℕ) → CutsFrom from cuts to → (writes : List Row) → from + length writes ≤ to → (key : List ℕ) → Drops (newest_each (ends_of cuts to) (numbered_after from writes) key)
+each_drops from to cuts are [] fit key = subst Drops (sym (newest_firsts from to cuts are [] fit key)) tt
+each_drops from to cuts are (w ∷ writes) fit key =
+    let ends = ends_of cuts to in
+    let turned = reverse (numbered_after from (w ∷ writes)) in
+    let own : NumbersFall from to (filter (has_key key) turned) = numbers_filter (has_key key) from to turned (numbers_fall from (w ∷ writes) from to (omega arith) fit) in
+    subst Drops (sym (newest_firsts from to cuts are (w ∷ writes) fit key))
+    (firsts_drops (end_at ends to) (marks ends key turned) (marks_fall from to cuts are (omega (arith, fit)) to (filter (has_key key) turned) (omega arith) own))
+
+-- rows by key, of which each key's are those of a flat, are the flat
+pub flat_of_keys : (from to : ℕ) (bottom : Bottom) (writes : List Row) (rows : List Kept) → AreCuts from to bottom.cuts → from + length writes ≤ to → RisesBy key_of_kept rows
+    → ((key : List ℕ) → of_key key rows ≡ stays bottom.last (newest_each (ends_of bottom.cuts to) (numbered_after from writes) key)) → IsFlatOf from to bottom writes rows
+flat_of_keys from to bottom writes rows are fit rises newest = record {
+  ordered = ordered_of_keys rows rises (λ key.
+      let each = newest_each (ends_of bottom.cuts to) (numbered_after from writes) key in
+      subst Drops (sym (newest key)) (stays_drops bottom.last each (each_drops from to bottom.cuts are.ascend writes fit key)));
+  newest = newest;
+}
 
 -- ---- how many rows
 

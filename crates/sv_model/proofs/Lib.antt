@@ -6,6 +6,7 @@ pub mod FlatKeys
 pub mod FlatLaws
 pub mod FlatRanges
 pub mod FlatReads
+pub mod FlatText
 pub mod Freed
 pub mod HolderLaws
 pub mod KeyOrder

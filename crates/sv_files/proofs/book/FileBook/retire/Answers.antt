@@ -1,4 +1,4 @@
-use Rattle.std.proofs.Common.{◌≡◌, ℕ, sym, ◌∙◌}
+use Rattle.std.proofs.Common.{◌≡◌, refl}
 use Rattle.sv_model.specs.Books.{FileRegister}
 use Rattle.sv_model.specs.declared.records.FileStatus.TheVariants.{Pending, Live, Obsolete, Grabbed}
 use Rattle.sv_model.specs.Numbers.{IsRegistered, MarksOnly}
@@ -21,4 +21,4 @@ invariant_of-self c =
 pub returns : goal.returns
 returns c =
     there (λ n r new. MarksOnly n Live Obsolete r new) _ c.self.view_is c.number.view_is
-    (marks-only _ c.self.inside.made c.number.inside.0 c.mark.result.status Live Obsolete c.mark.new.self c.self.invariant c.mark.ensures.marked.0 (here (λ n r. IsRegistered r.numbers n Live) c.self.view_is c.number.view_is c.requires))
+    (marks-only _ c.self.inside.made c.number.inside.0 c.mark.result.status Live Obsolete c.mark.new.self c.self.invariant c.mark.ensures.marked.0 (here (λ n r. IsRegistered r.numbers n Live) c.self.view_is c.number.view_is c.requires) Obsolete refl)
