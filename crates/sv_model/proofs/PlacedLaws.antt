@@ -26,15 +26,7 @@ module _ {A : Type 0} (live : A → Bool) (place : A → ℕ) where
   pub they_have_places : (l self : List A) (places : List ℕ) (limit : ℕ) → l ≡ self → length places ≡ limit → Housed live place l places → HavePlaces live place limit self
   they_have_places l self places limit same wide h = subst (HavePlaces live place limit) same (have_places l places limit wide h)
 
-  -- ---- what stands at a place
-  pub id_at_is : (l : List A) (places : List ℕ) (p n : ℕ) → Housed live place l places → slice_get places p ≡ Some n → IsIdAt live place l p n
-  id_at_is l places p zero h is = λ there.
-      let both : Some 0 ≡ Some there.0 = sym is ∙ ap (slice_get places) (sym there.3.at) ∙ h.home there.0 there.1 there.2 there.3.is_live in
-      let none : 0 ≡ there.0 = same_Some 0 there.0 both in
-      let le = entry_le l there.0 there.1 there.2 in
-      omega arith
-  id_at_is l places p (suc n) h is = h.held p n is
-
+  -- ---- a free place
   pub free_at : (l : List A) (places : List ℕ) (p : ℕ) → Housed live place l places → p < length places → (Has (StandsAt live place p) l → ⊥) → slice_get places p ≡ Some 0
   free_at l places p h within free = free_by (get_or places p 0) (slice_get-get_or places p 0 within)
     where
