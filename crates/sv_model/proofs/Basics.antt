@@ -1,5 +1,5 @@
 -- Small facts on numbers and options that many proofs take for granted.
-use Rattle.std.proofs.Common.{◌≡◌, ◌≢◌, ◌≤◌, ◌⊎◌, ℕ, true, Option, Some, None, nat_le, arith}
+use Rattle.std.proofs.Common.{◌≡◌, ◌≢◌, ◌≤◌, ◌⊎◌, ℕ, true, Some, None, nat_le, arith}
 
 pub apart_or : (k n : ℕ) → (k ≡ n) ⊎ (k ≢ n)
 apart_or k n = grind arith

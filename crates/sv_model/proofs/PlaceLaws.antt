@@ -1,5 +1,5 @@
 -- Laws of places: what making an object and ending one leave, and what the scan for a free place says.
-use Rattle.std.proofs.Common.{◌≡◌, ◌≢◌, ℕ, zero, suc, ◌+◌, ◌<◌, ◌≤◌, ◌==◌, Bool, true, false, cond, not, ◌⊎◌, inl, inr, List, [], ◌∷◌, ◌++◌, length, Option, Some, None, slice_get, set, replicate, arith, refl, sym, ap, subst, ◌∙◌, get_or, nat_lt}
+use Rattle.std.proofs.Common.{◌≡◌, ◌≢◌, ℕ, zero, suc, ◌+◌, ◌<◌, ◌≤◌, ◌==◌, Bool, true, false, cond, not, inl, inr, List, [], ◌∷◌, ◌++◌, length, Option, Some, None, slice_get, set, replicate, arith, refl, sym, ap, subst, ◌∙◌, get_or, nat_lt}
 use Rattle.std.specs.List.{position_or_len}
 use Rattle.std.proofs.lemmas.Grind.{common_steps}
 use Rattle.std.proofs.lemmas.Bool.{lt-ltb, cases_lt, eqb-true, eq-eqb}
@@ -73,7 +73,6 @@ not_below m n none = elim (cases_lt m n) [
 ]
 
 module _ {A : Type 0} (live : A → Bool) (place : A → ℕ) where
-
   pub housed_none : (n : ℕ) → Housed live place [] (replicate n 0)
   housed_none n = record {
     home = λ k x is alive. absurd (none_there k x is);

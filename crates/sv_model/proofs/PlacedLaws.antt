@@ -1,10 +1,10 @@
 -- What the calls on a register of objects with places read, leave and give.
-use Rattle.std.proofs.Common.{◌≡◌, ◌≢◌, ℕ, zero, suc, ◌+◌, ◌-◌, ◌<◌, ◌≤◌, ◌==◌, ◌⊎◌, inl, inr, Bool, true, false, cond, not, List, [], ◌∷◌, ◌++◌, length, count_by, Option, Some, None, slice_get, get_or, set, replicate, arith, refl, sym, ap, subst, ◌∙◌, length-append}
+use Rattle.std.proofs.Common.{◌≡◌, ℕ, zero, suc, ◌+◌, ◌-◌, ◌<◌, ◌==◌, Bool, true, false, cond, not, List, [], ◌∷◌, ◌++◌, length, count_by, Option, Some, None, slice_get, get_or, set, replicate, arith, refl, sym, ap, subst, ◌∙◌, length-append}
 use Rattle.std.proofs.lemmas.List.Sums.{sum_by-cons}
 use Rattle.std.proofs.lemmas.Option.{same_Some, slice_get-get_or, slice_get_within}
 use Rattle.sv_model.specs.Named.{IsLive}
 use Rattle.sv_model.specs.Registers.{entry, change, Has}
-use Rattle.sv_model.specs.Places.{first_free, taken, live_count, StandsAt, Housed, HavePlaces, IsJustMade, IsEnded, IsRoom, IsIdAt}
+use Rattle.sv_model.specs.Places.{first_free, taken, live_count, StandsAt, Housed, HavePlaces, IsJustMade, IsEnded, IsRoom}
 use Rattle.sv_model.proofs.Registers.{entry_le, entry-new, entry-code, change-code}
 use Rattle.sv_model.proofs.PlaceLaws.{housed_none, housed_push, housed_end, housed_pop, full_is, least_is}
 
@@ -18,10 +18,12 @@ module _ {A : Type 0} (live : A → Bool) (place : A → ℕ) where
 
   pub have_places : (l : List A) (places : List ℕ) (limit : ℕ) → length places ≡ limit → Housed live place l places → HavePlaces live place limit l
   have_places l places limit wide h n x at is =
-      let p = place_within l places n x h at is in
-      (omega arith, λ k y there now same. (
-      let both : Some k ≡ Some n = sym (h.home k y there now) ∙ ap (slice_get places) same ∙ h.home n x at is in
-      same_Some k n both))
+      let p = place_within l places n x h at is in (
+        omega arith,
+        λ k y there now same. (
+            let both : Some k ≡ Some n = sym (h.home k y there now) ∙ ap (slice_get places) same ∙ h.home n x at is in
+            same_Some k n both),
+      )
 
   pub they_have_places : (l self : List A) (places : List ℕ) (limit : ℕ) → l ≡ self → length places ≡ limit → Housed live place l places → HavePlaces live place limit self
   they_have_places l self places limit same wide h = subst (HavePlaces live place limit) same (have_places l places limit wide h)

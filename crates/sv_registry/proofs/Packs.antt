@@ -1,9 +1,9 @@
 -- A pack is that of a Live SuperVersion exactly where its serial stands at its place.
-use Rattle.std.proofs.Common.{◌≡◌, ◌≢◌, ℕ, zero, suc, ◌+◌, ◌*◌, ◌<◌, List, Some, arith, refl, sym, ap, subst, ◌∙◌}
+use Rattle.std.proofs.Common.{◌≡◌, ◌≢◌, ℕ, zero, suc, ◌+◌, ◌*◌, ◌<◌, List, arith, refl, sym, ap, ◌∙◌}
 use Rattle.sv_model.specs.declared.records.SuperVersion.{SuperVersion}
 use Rattle.sv_model.specs.Named.{super_live}
-use Rattle.sv_model.specs.Registers.{entry, Has}
-use Rattle.sv_model.specs.Places.{place_of, HavePlaces, IsIdAt, StandsAt}
+use Rattle.sv_model.specs.Registers.{entry}
+use Rattle.sv_model.specs.Places.{place_of, HavePlaces, IsIdAt}
 use Rattle.sv_registry.specs.Calls.{IsLivePack}
 
 pub stands_is : (supers : List SuperVersion) (id serial place : ℕ) → IsIdAt super_live place_of supers place id → id ≢ 0 → id ≡ serial → place < 256 → IsLivePack supers (serial * 256 + place)
