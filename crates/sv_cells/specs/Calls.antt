@@ -3,9 +3,9 @@ use Rattle.std.specs.Prelude.{◌≡◌, ◌+◌, ◌<◌, ℕ, true, cond, nat_
 use Rattle.sv_model.specs.declared.records.Memtable.{Memtable}
 use Rattle.sv_model.specs.declared.refusals.Refusal.{Refusal}
 use Rattle.sv_model.specs.declared.refusals.Refusal.TheVariants.{TooManyMemtables}
-use Rattle.sv_model.specs.Registers.{IsLiveEntry}
+use Rattle.sv_model.specs.Named.{memtable_live}
 use Rattle.sv_model.specs.Places as places
-use Rattle.sv_model.specs.Places.{live_count, IsLeastFree, HavePlaces, memtable_live, cell_of, gone_memtable}
+use Rattle.sv_model.specs.Places.{live_count, IsLeastFree, HavePlaces, cell_of, gone_memtable}
 
 -- the refusal that making a memtable meets: 64 are not Gone
 abbrev pub memtables_refusal : List Memtable → Option Refusal
@@ -26,10 +26,6 @@ HaveCells = HavePlaces memtable_live cell_of 64
 -- the memtable made last is not Gone
 abbrev pub IsJustMade : List Memtable → Type 0
 IsJustMade = places.IsJustMade memtable_live
-
--- object number n of the register is a memtable that is not Gone
-abbrev pub IsLiveMemtable : List Memtable → ℕ → Type 0
-IsLiveMemtable = IsLiveEntry memtable_live
 
 -- The memtable of this id, which was not Gone, is Gone, and nothing else changed.
 abbrev pub IsEnded : List Memtable → ℕ → Memtable → List Memtable → Type 0

@@ -4,8 +4,9 @@ ghost use Rattle.std.specs.Option.{option_copied};
 ghost use Rattle.sv_model.specs.declared.records.Memtable.{Memtable};
 ghost use Rattle.sv_model.specs.declared.refusals.Refusal.TheVariants.{TooManyMemtables};
 ghost use Rattle.sv_model.specs.Refusals.{Refuses};
+ghost use Rattle.sv_model.specs.Named.{IsLiveMemtable};
 ghost use Rattle.sv_model.specs.Registers.{entry};
-ghost use Rattle.sv_cells.specs.Calls.{HaveCells, IsEnded, IsJustMade, IsLiveMemtable, IsMade, memtables_refusal};
+ghost use Rattle.sv_cells.specs.Calls.{HaveCells, IsEnded, IsJustMade, IsMade, memtables_refusal};
 
 use std::alloc::Global;
 use std::marker::Model;

@@ -2,6 +2,7 @@
 use Rattle.std.proofs.Common.{◌≡◌, ◌≢◌, ℕ, zero, suc, ◌+◌, ◌<◌, ◌≤◌, true, false, cond, ◌==◌, ◌⊎◌, inl, inr, ◌↔◌, List, [], ◌∷◌, arith, refl, sym, ap, subst, ◌∙◌}
 use Rattle.std.proofs.lemmas.Grind.{common_steps}
 use Rattle.sv_model.specs.Lists.{Distinct, IsPartOf, IsChosen, same, times}
+use Rattle.sv_model.proofs.Basics.{apart_or}
 use Rattle.sv_model.proofs.Lists.{same_here, same_other, times_in, in_times, total_at}
 
 -- the items that nobody else holds, each where it stands last
@@ -11,9 +12,6 @@ freed others (x ∷ xs) = cond (others x + times x xs == 0) (x ∷ freed others 
 
 zero_or : (n : ℕ) → ((n == 0) ≡ true × n ≡ 0) ⊎ ((n == 0) ≡ false × 0 < n)
 zero_or n = grind (arith, common_steps)
-
-apart_or : (k n : ℕ) → (k ≡ n) ⊎ (k ≢ n)
-apart_or k n = grind arith
 
 -- the items that are not the last of theirs, or that others hold, are left out
 pub freed-take : (others : ℕ → ℕ) (x : ℕ) (xs : List ℕ) → others x + times x xs ≡ 0 → freed others (x ∷ xs) ≡ x ∷ freed others xs

@@ -5,7 +5,8 @@ use Rattle.std.proofs.lemmas.Option.{same_Some}
 use Rattle.sv_model.specs.declared.counts.Counts.{Counts}
 use Rattle.sv_model.specs.Counts.{count_of}
 use Rattle.sv_model.specs.Lists.{IsChosen, total, times}
-use Rattle.sv_model.specs.Registers.{entry, change, Has, IsLiveEntry}
+use Rattle.sv_model.specs.Named.{IsLive}
+use Rattle.sv_model.specs.Registers.{entry, change, Has}
 use Rattle.sv_model.specs.Holders.{Holds, namings, AreCounted, IsLetGo}
 use Rattle.sv_model.proofs.Lists.{total-push, times_in, in_times}
 use Rattle.sv_model.proofs.Registers.{entry_le, entry_push, entry-old, entry-new, entry_change, entry-code, change-code, total_entry, has_total, total-change, length-change}
@@ -57,7 +58,7 @@ module _ {A : Type 0} (numbers : A → List ℕ) (live : A → Bool) where
 -- ---- what the code reads
 module _ {A : Type 0} (live : A → Bool) where
   -- a Live record at index n - 1
-  pub found_read : (l self : List A) (n : ℕ) (x : A) → l ≡ self → IsLiveEntry live self n → x ≡ get_or l (n - 1) x → (entry l n ≡ Some x) × (live x ≡ true)
+  pub found_read : (l self : List A) (n : ℕ) (x : A) → l ≡ self → IsLive live self n → x ≡ get_or l (n - 1) x → (entry l n ≡ Some x) × (live x ≡ true)
   found_read l self n x same there read =
       let at_it : entry l n ≡ Some there.it = ap (λ z. entry z n) same ∙ there.at in
       let within = entry_le l n there.it at_it in
@@ -66,7 +67,7 @@ module _ {A : Type 0} (live : A → Bool) where
       (at, sym (ap live e) ∙ there.live)
 
   -- the last one
-  pub found_last : (l self rest : List A) (x : A) → l ≡ self → l ≡ rest ++ x ∷ [] → IsLiveEntry live self (length self) → (entry l (length l) ≡ Some x) × (live x ≡ true)
+  pub found_last : (l self rest : List A) (x : A) → l ≡ self → l ≡ rest ++ x ∷ [] → IsLive live self (length self) → (entry l (length l) ≡ Some x) × (live x ≡ true)
   found_last l self rest x same split there =
       let n = ap length split ∙ length_push rest x in
       let at : entry l (length l) ≡ Some x = subst (λ all. entry all (length l) ≡ Some x) (sym split) (entry-new rest x (length l) n) in

@@ -1,5 +1,6 @@
 pub mod AfterLaws
 pub mod Ascending
+pub mod Basics
 pub mod FlatEnds
 pub mod FlatFirsts
 pub mod FlatKeys

@@ -1,9 +1,10 @@
 -- What the calls on a register of objects with places read, leave and give.
-use Rattle.std.proofs.Common.{◌≡◌, ◌≢◌, ℕ, zero, suc, ◌+◌, ◌-◌, ◌<◌, ◌≤◌, ◌==◌, ◌⊎◌, inl, inr, Bool, true, false, cond, not, List, [], ◌∷◌, ◌++◌, length, count_by, Option, Some, None, slice_get, get_or, set, replicate, arith, refl, sym, ap, subst, ◌∙◌, length-append}
+use Rattle.std.proofs.Common.{◌≡◌, ℕ, zero, suc, ◌+◌, ◌-◌, ◌<◌, ◌==◌, Bool, true, false, cond, not, List, [], ◌∷◌, ◌++◌, length, count_by, Option, Some, None, slice_get, get_or, set, replicate, arith, refl, sym, ap, subst, ◌∙◌, length-append}
 use Rattle.std.proofs.lemmas.List.Sums.{sum_by-cons}
 use Rattle.std.proofs.lemmas.Option.{same_Some, slice_get-get_or, slice_get_within}
-use Rattle.sv_model.specs.Registers.{entry, change, Has, IsLiveEntry}
-use Rattle.sv_model.specs.Places.{first_free, taken, live_count, StandsAt, Housed, HavePlaces, IsJustMade, IsEnded, IsRoom, IsIdAt}
+use Rattle.sv_model.specs.Named.{IsLive}
+use Rattle.sv_model.specs.Registers.{entry, change, Has}
+use Rattle.sv_model.specs.Places.{first_free, taken, live_count, StandsAt, Housed, HavePlaces, IsJustMade, IsEnded, IsRoom}
 use Rattle.sv_model.proofs.Registers.{entry_le, entry-new, entry-code, change-code}
 use Rattle.sv_model.proofs.PlaceLaws.{housed_none, housed_push, housed_end, housed_pop, full_is, least_is}
 
@@ -16,25 +17,18 @@ module _ {A : Type 0} (live : A → Bool) (place : A → ℕ) where
   place_within l places n x h at is = slice_get_within places (place x) n (h.home n x at is)
 
   pub have_places : (l : List A) (places : List ℕ) (limit : ℕ) → length places ≡ limit → Housed live place l places → HavePlaces live place limit l
-  have_places l places limit wide h = record {
-    within = λ n x at is. let p = place_within l places n x h at is in omega arith;
-    apart = λ n m x y at is there now same.
-        let both : Some n ≡ Some m = sym (h.home n x at is) ∙ ap (slice_get places) same ∙ h.home m y there now in
-        same_Some n m both;
-  }
+  have_places l places limit wide h n x at is =
+      let p = place_within l places n x h at is in (
+        omega arith,
+        λ k y there now same. (
+            let both : Some k ≡ Some n = sym (h.home k y there now) ∙ ap (slice_get places) same ∙ h.home n x at is in
+            same_Some k n both),
+      )
 
   pub they_have_places : (l self : List A) (places : List ℕ) (limit : ℕ) → l ≡ self → length places ≡ limit → Housed live place l places → HavePlaces live place limit self
   they_have_places l self places limit same wide h = subst (HavePlaces live place limit) same (have_places l places limit wide h)
 
-  -- ---- what stands at a place
-  pub id_at_is : (l : List A) (places : List ℕ) (p n : ℕ) → Housed live place l places → slice_get places p ≡ Some n → IsIdAt live place l p n
-  id_at_is l places p zero h is = λ there.
-      let both : Some 0 ≡ Some there.0 = sym is ∙ ap (slice_get places) (sym there.3.at) ∙ h.home there.0 there.1 there.2 there.3.is_live in
-      let none : 0 ≡ there.0 = same_Some 0 there.0 both in
-      let le = entry_le l there.0 there.1 there.2 in
-      omega arith
-  id_at_is l places p (suc n) h is = h.held p n is
-
+  -- ---- a free place
   pub free_at : (l : List A) (places : List ℕ) (p : ℕ) → Housed live place l places → p < length places → (Has (StandsAt live place p) l → ⊥) → slice_get places p ≡ Some 0
   free_at l places p h within free = free_by (get_or places p 0) (slice_get-get_or places p 0 within)
     where
@@ -49,7 +43,7 @@ module _ {A : Type 0} (live : A → Bool) (place : A → ℕ) where
       subst (λ (z : List A × ℕ). Housed live place z.0 (set places z.1 n)) (λ i. (sym now_is i, sym p_is i)) (housed_push live place l places x n h none is n_is)
 
   -- ---- a Live object ends
-  pub ending : (l self : List A) (n : ℕ) (x : A) → l ≡ self → IsLiveEntry live self n → x ≡ get_or l (n - 1) x → (entry l n ≡ Some x) × (live x ≡ true)
+  pub ending : (l self : List A) (n : ℕ) (x : A) → l ≡ self → IsLive live self n → x ≡ get_or l (n - 1) x → (entry l n ≡ Some x) × (live x ≡ true)
   ending l self n x same there read =
       let at_it : entry l n ≡ Some there.it = ap (λ z. entry z n) same ∙ there.at in
       let within = entry_le l n there.it at_it in

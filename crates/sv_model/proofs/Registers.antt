@@ -3,6 +3,7 @@ use Rattle.std.proofs.Common.{◌≡◌, ◌≢◌, ℕ, zero, suc, ◌+◌, ◌
 use Rattle.std.proofs.lemmas.Option.{slice_get_within, slice_get_read}
 use Rattle.sv_model.specs.Lists.{total}
 use Rattle.sv_model.specs.Registers.{entry, change, Has, GoesOn}
+use Rattle.sv_model.proofs.Basics.{apart_or}
 use Rattle.sv_model.proofs.Lists.{total_at, at_total, total-set}
 
 -- ---- entries
@@ -67,9 +68,6 @@ pub entry-else : {A : Type 0} (l : List A) (n k : ℕ) (y : A) → k ≢ n → e
 entry-else l zero k y apart = refl
 entry-else l (suc n) zero y apart = refl
 entry-else l (suc n) (suc k) y apart = get-else l n k y (λ e. apart (ap suc e))
-
-apart_or : (k n : ℕ) → (k ≡ n) ⊎ (k ≢ n)
-apart_or k n = grind arith
 
 set_same : {A : Type 0} (l : List A) (n : ℕ) (y x : A) → slice_get (set l n y) n ≡ Some x → x ≡ y
 set_same [] n y x is = absurd (cc)

@@ -1,5 +1,5 @@
 -- Registers of holders: records that name objects by their numbers while they are Live.
-use Rattle.std.specs.Prelude.{◌≡◌, ◌+◌, ◌≤◌, ◌++◌, ◌∷◌, ℕ, Bool, true, cond, List, [], Some, length}
+use Rattle.std.specs.Prelude.{◌≡◌, ◌≤◌, ℕ, Bool, true, cond, List, Some, length}
 use Rattle.sv_model.specs.declared.counts.Counts.{Counts}
 use Rattle.sv_model.specs.Counts.{count_of}
 use Rattle.sv_model.specs.Lists.{In, IsChosen, total, times}

@@ -1,5 +1,5 @@
 -- Places. An array has at each place the id of the Live object that stands there, or 0 where none does.
-use Rattle.std.specs.Prelude.{◌≡◌, ◌==◌, ◌<◌, ◌∷◌, ◌++◌, ℕ, zero, suc, Bool, true, false, cond, List, [], length, Option, Some, None, slice_get, position}
+use Rattle.std.specs.Prelude.{◌≡◌, ◌==◌, ◌<◌, ◌∷◌, ◌++◌, ℕ, zero, suc, Bool, true, false, cond, List, [], Option, Some, None, slice_get, position}
 use Rattle.sv_model.specs.declared.records.Memtable.{Memtable}
 use Rattle.sv_model.specs.declared.records.SuperVersion.{SuperVersion}
 use Rattle.sv_model.specs.Lists.{total}
@@ -34,9 +34,9 @@ pub record Housed {A : Type 0} (live : A → Bool) (place : A → ℕ) (register
   pub count : taken places ≡ live_count live register
 
 -- Each Live object has a place of its own, below the limit.
-pub record HavePlaces {A : Type 0} (live : A → Bool) (place : A → ℕ) (limit : ℕ) (register : List A) : Type 0 where
-  pub within : EachEntry (λ n x. live x ≡ true → place x < limit) register
-  pub apart : (n m : ℕ) (x y : A) → entry register n ≡ Some x → live x ≡ true → entry register m ≡ Some y → live y ≡ true → place x ≡ place y → n ≡ m
+abbrev pub HavePlaces : {A : Type 0} → (A → Bool) → (A → ℕ) → ℕ → List A → Type 0
+HavePlaces live place limit register =
+    EachEntry (λ n x. live x ≡ true → (place x < limit) × EachEntry (λ k y. live y ≡ true → place y ≡ place x → k ≡ n) register) register
 
 -- the object made last is Live
 pub record IsJustMade {A : Type 0} (lives : A → Bool) (register : List A) : Type 0 where
@@ -67,17 +67,11 @@ IsIdAt live place register p zero = Has (StandsAt live place p) register → ⊥
 IsIdAt {A} live place register p (suc n) = (x : A) × (entry register (suc n) ≡ Some x) × StandsAt live place p x
 
 -- ---- the two kinds of objects that have places
-abbrev pub memtable_live : Memtable → Bool
-memtable_live m = m.live
-
 abbrev pub cell_of : Memtable → ℕ
 cell_of m = m.cell
 
 abbrev pub gone_memtable : Memtable → Memtable
 gone_memtable m = record m { live = false }
-
-abbrev pub super_live : SuperVersion → Bool
-super_live s = s.live
 
 abbrev pub place_of : SuperVersion → ℕ
 place_of s = s.place

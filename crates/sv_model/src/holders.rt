@@ -3,7 +3,8 @@
 ghost use Rattle.std.specs.Prelude.{◌≡◌, ℕ, ◌+◌, ◌<◌, ◌≤◌, ◌++◌, ◌∷◌, [], Bool, true, false, List, length, slice_index, IsTrue, ◌↔◌, OnErr, IfOk, Some, vec_len};
 ghost use Rattle.sv_model.specs.Holders.{Holds, IsLetGo};
 ghost use Rattle.sv_model.specs.Lists.{times};
-ghost use Rattle.sv_model.specs.Registers.{entry, Has, IsAdded, IsLiveEntry};
+ghost use Rattle.sv_model.specs.Named.{IsLive};
+ghost use Rattle.sv_model.specs.Registers.{entry, Has, IsAdded};
 
 use crate::counts::Counts;
 use crate::faults::OutOfMemory;
@@ -113,7 +114,7 @@ impl<T: Holder> HolderRegister<T> {
 
     /// The record with this id, which is Live. Takes no memory.
     pub fn get(&self, id: u32) -> &T
-        requires { IsLiveEntry T.lives self.now id }
+        requires { IsLive T.lives self.now id }
         ensures value { entry self.now id ≡ Some result.now }
         ensures sound { T.sound result.now }
     {
@@ -130,7 +131,7 @@ impl<T: Holder> HolderRegister<T> {
     /// The record is Gone. Gives the numbers that it named and no other Live record names, in its order, each
     /// once. Takes no memory.
     pub fn release(&mut self, id: u32) -> T::Freed
-        requires { IsLiveEntry T.lives self.old id }
+        requires { IsLive T.lives self.old id }
         ensures { IsLetGo T.numbers T.lives T.gone self.old id self.new (T.handed result) }
     {
         let record = &mut self.records[id as usize - 1];
@@ -140,7 +141,7 @@ impl<T: Holder> HolderRegister<T> {
 
     /// Undoes the making of the last record, which is Live. Takes no memory.
     pub fn take_back(&mut self)
-        requires { IsLiveEntry T.lives self.old (length self.old) }
+        requires { IsLive T.lives self.old (length self.old) }
         ensures { (last : T) × (self.old ≡ self.new ++ last ∷ []) }
     {
         match self.records.pop() {

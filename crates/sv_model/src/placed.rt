@@ -2,7 +2,8 @@
 ghost use Rattle.std.specs.Prelude.{◌≡◌, ◌==◌, ◌<◌, ◌≤◌, ◌∷◌, ◌++◌, ℕ, Bool, true, false, not, [], Some, length, count_by, refl, IfOk, OnErr};
 ghost use Rattle.std.specs.Option.{option_copied};
 ghost use Rattle.sv_model.specs.Places.{HavePlaces, IsAt, IsEnded, IsIdAt, IsJustMade, IsRoom, StandsAt, first_free};
-ghost use Rattle.sv_model.specs.Registers.{entry, Has, IsAdded, IsLiveEntry};
+ghost use Rattle.sv_model.specs.Named.{IsLive};
+ghost use Rattle.sv_model.specs.Registers.{entry, Has, IsAdded};
 
 use crate::faults::OutOfMemory;
 use crate::records::{Memtable, SuperVersion};
@@ -32,7 +33,8 @@ pub trait Placed: Copy {
 }
 
 impl Placed for Memtable {
-    ghost use Rattle.sv_model.specs.Places.{memtable_live, cell_of, gone_memtable};
+    ghost use Rattle.sv_model.specs.Named.{memtable_live};
+    ghost use Rattle.sv_model.specs.Places.{cell_of, gone_memtable};
 
     ghost lives = { memtable_live };
 
@@ -55,7 +57,8 @@ impl Placed for Memtable {
 }
 
 impl Placed for SuperVersion {
-    ghost use Rattle.sv_model.specs.Places.{super_live, place_of, gone_super};
+    ghost use Rattle.sv_model.specs.Named.{super_live};
+    ghost use Rattle.sv_model.specs.Places.{place_of, gone_super};
 
     ghost lives = { super_live };
 
@@ -186,7 +189,7 @@ impl<T: Placed, const N: usize> PlacedRegister<T, N> {
 
     /// The object is Gone, and its place free. Gives its record as it was. Takes no memory.
     pub fn end(&mut self, id: u32) -> T
-        requires { IsLiveEntry T.lives self.old id }
+        requires { IsLive T.lives self.old id }
         ensures ended { IsEnded T.lives T.gone self.old id result self.new }
         ensures placed { HavePlaces T.lives T.place N self.new }
     {

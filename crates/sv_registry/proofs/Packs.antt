@@ -1,8 +1,9 @@
 -- A pack is that of a Live SuperVersion exactly where its serial stands at its place.
-use Rattle.std.proofs.Common.{◌≡◌, ◌≢◌, ℕ, zero, suc, ◌+◌, ◌*◌, ◌<◌, List, Some, arith, refl, sym, ap, subst, ◌∙◌}
+use Rattle.std.proofs.Common.{◌≡◌, ◌≢◌, ℕ, zero, suc, ◌+◌, ◌*◌, ◌<◌, List, arith, refl, sym, ap, ◌∙◌}
 use Rattle.sv_model.specs.declared.records.SuperVersion.{SuperVersion}
-use Rattle.sv_model.specs.Registers.{entry, Has, IsLiveEntry}
-use Rattle.sv_model.specs.Places.{super_live, place_of, HavePlaces, IsIdAt, StandsAt}
+use Rattle.sv_model.specs.Named.{super_live}
+use Rattle.sv_model.specs.Registers.{entry}
+use Rattle.sv_model.specs.Places.{place_of, HavePlaces, IsIdAt}
 use Rattle.sv_registry.specs.Calls.{IsLivePack}
 
 pub stands_is : (supers : List SuperVersion) (id serial place : ℕ) → IsIdAt super_live place_of supers place id → id ≢ 0 → id ≡ serial → place < 256 → IsLivePack supers (serial * 256 + place)
@@ -27,5 +28,5 @@ is_standing supers (suc n) serial place placed at within live =
     let inside = live.within in
     let p : live.it.place ≡ place = omega arith in
     let s : live.serial ≡ serial = omega arith in
-    let one = placed.apart (suc n) live.serial at.0 live.it at.1 at.2.is_live live.at live.live (at.2.at ∙ sym p) in
+    let one = (placed live.serial live.it live.at live.live).1 (suc n) at.0 at.1 at.2.is_live (at.2.at ∙ sym p) in
     one ∙ s

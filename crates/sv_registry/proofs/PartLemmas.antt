@@ -2,8 +2,9 @@
 use Rattle.std.proofs.Common.{◌≡◌, ℕ, ◌<◌, ◌≤◌, true, List, Option, Some, None, arith, refl, sym, ap, subst, ◌∙◌}
 use Rattle.std.proofs.lemmas.Option.{same_Some}
 use Rattle.sv_model.specs.declared.records.SuperVersion.{SuperVersion}
+use Rattle.sv_model.specs.Named.{super_live}
 use Rattle.sv_model.specs.Registers.{entry, Has}
-use Rattle.sv_model.specs.Places.{super_live, place_of, HavePlaces, IsAt, StandsAt}
+use Rattle.sv_model.specs.Places.{place_of, HavePlaces, IsAt, StandsAt}
 use Rattle.sv_registry.specs.declared.parts.Part.{Part}
 use Rattle.sv_registry.specs.declared.parts.Part.TheVariants as part
 use Rattle.sv_registry.specs.Parts.{Names, NamesPart}
@@ -30,7 +31,7 @@ NoneAt p supers i = (n : ℕ) (s : SuperVersion) → entry supers n ≡ Some s �
 -- A part is named only by a SuperVersion at some place.
 pub none_named : (p : Part) (supers : List SuperVersion) (limit n : ℕ) → HavePlaces super_live place_of limit supers → limit ≤ n → ((i : ℕ) → i < n → NoneAt p supers i) → Has (NamesPart p) supers → ⊥
 none_named p supers limit n placed all none there =
-    let within = placed.within there.0 there.1 there.2 (part_live p there.1 there.3) in
+    let within = (placed there.0 there.1 there.2 (part_live p there.1 there.3)).0 in
     none there.1.place (omega arith) there.0 there.1 there.2 there.3 refl
 
 -- the place just looked at
@@ -42,6 +43,6 @@ none_free p supers i found none at n s is named here =
 pub none_here : (p : Part) (supers : List SuperVersion) (limit i : ℕ) (found : Option SuperVersion) (r : SuperVersion) → HavePlaces super_live place_of limit supers → found ≡ Some r → IsAt super_live place_of supers i found → (Names p r.descriptor → ⊥) → NoneAt p supers i
 none_here p supers limit i found r placed some at other n s is named here =
     let there = subst (IsAt super_live place_of supers i) some at in
-    let one = placed.apart n there.0 s r is (part_live p s named) there.1 there.2.is_live (here ∙ sym there.2.at) in
+    let one = (placed there.0 r there.1 there.2.is_live).1 n s is (part_live p s named) (here ∙ sym there.2.at) in
     let e : s ≡ r = same_Some s r (sym is ∙ ap (entry supers) one ∙ there.1) in
     other (subst (λ z. Names p z.descriptor) e (part_named p s named))

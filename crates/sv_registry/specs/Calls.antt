@@ -1,14 +1,14 @@
 -- What the calls of a registry give and leave.
-use Rattle.std.specs.Prelude.{◌≡◌, ◌+◌, ◌*◌, ◌<◌, ℕ, true, false, cond, nat_le, List, [], ◌∷◌, ◌++◌, length, Option, Some, None}
+use Rattle.std.specs.Prelude.{◌≡◌, ◌+◌, ◌*◌, ◌<◌, ℕ, true, cond, nat_le, List, [], ◌∷◌, ◌++◌, length, Option, Some, None}
 use Rattle.sv_model.specs.declared.records.SuperVersion.{SuperVersion}
 use Rattle.sv_model.specs.declared.records.Descriptor.{Descriptor}
 use Rattle.sv_model.specs.declared.refusals.Refusal.{Refusal}
 use Rattle.sv_model.specs.declared.refusals.Refusal.TheVariants.{RegisterFull, TooManyLive}
-use Rattle.sv_model.specs.Registers.{entry, Has, IsLiveEntry}
+use Rattle.sv_model.specs.Named.{super_live, UsesMemtable, UsesList, UsesVersion}
+use Rattle.sv_model.specs.Registers.{entry, Has}
 use Rattle.sv_model.specs.Places as model
-use Rattle.sv_model.specs.Places.{live_count, IsLeastFree, HavePlaces, super_live, place_of, gone_super}
+use Rattle.sv_model.specs.Places.{live_count, IsLeastFree, HavePlaces, place_of, gone_super}
 use Rattle.sv_registry.specs.declared.registry.Freed.{Freed}
-use Rattle.sv_registry.specs.Names.{UsesMemtable, UsesList, UsesVersion}
 
 -- the refusal that is due where 256 are Live
 abbrev pub full_refusal : List SuperVersion → Option Refusal
@@ -33,10 +33,6 @@ HaveOwnPlaces = HavePlaces super_live place_of 256
 -- the SuperVersion made last is Live
 abbrev pub IsJustMade : List SuperVersion → Type 0
 IsJustMade = model.IsJustMade super_live
-
--- the SuperVersion of this serial is Live
-abbrev pub IsLiveSuper : List SuperVersion → ℕ → Type 0
-IsLiveSuper = IsLiveEntry super_live
 
 -- the pack is that of a Live SuperVersion, whose serial and record these are
 pub record IsLivePack (supers : List SuperVersion) (pack : ℕ) : Type 0 where

@@ -1,3 +1,2 @@
 pub mod Calls
-pub mod Names
 pub mod Parts

@@ -4,7 +4,7 @@ use Rattle.sv_model.specs.declared.records.SuperVersion.{SuperVersion}
 use Rattle.sv_model.specs.declared.records.Descriptor.{Descriptor}
 use Rattle.sv_registry.specs.declared.parts.Part.{Part}
 use Rattle.sv_registry.specs.declared.parts.Part.TheVariants.{Active, List, Version}
-use Rattle.sv_registry.specs.Names.{UsesMemtable, UsesList, UsesVersion}
+use Rattle.sv_model.specs.Named.{UsesMemtable, UsesList, UsesVersion}
 
 -- the descriptor names the part
 abbrev pub Names : Part → Descriptor → Type 0

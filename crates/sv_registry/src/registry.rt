@@ -5,9 +5,9 @@ ghost use Rattle.sv_model.specs.declared.records.SuperVersion.{SuperVersion};
 ghost use Rattle.sv_model.specs.declared.refusals.Refusal.TheVariants.{RegisterFull, TooManyLive};
 ghost use Rattle.sv_model.specs.Refusals.{Refuses};
 ghost use Rattle.sv_model.specs.Registers.{entry, Has};
-ghost use Rattle.sv_registry.specs.Names.{UsesMemtable, UsesList, UsesVersion};
+ghost use Rattle.sv_model.specs.Named.{IsLiveSuper, UsesMemtable, UsesList, UsesVersion};
 ghost use Rattle.sv_registry.specs.Parts.{NamesPart};
-ghost use Rattle.sv_registry.specs.Calls.{HaveOwnPlaces, IsJustMade, IsLivePack, IsMade, IsReclaimed, IsEnded, IsLiveSuper, Frees, full_refusal, make_refusal};
+ghost use Rattle.sv_registry.specs.Calls.{HaveOwnPlaces, IsJustMade, IsLivePack, IsMade, IsReclaimed, IsEnded, Frees, full_refusal, make_refusal};
 
 use crate::parts::{Part, is_named};
 use std::alloc::Global;

@@ -1,5 +1,5 @@
 -- A Version holds its files, and what the register of holders says of a release.
-use Rattle.std.proofs.Common.{◌≡◌, ℕ, List, Some, subst}
+use Rattle.std.proofs.Common.{◌≡◌, ℕ, List, subst}
 use Rattle.sv_model.specs.declared.records.Version.{Version}
 use Rattle.sv_model.specs.Named.{HasFile, numbers_of}
 use Rattle.sv_model.specs.Registers.{Has}

@@ -1,7 +1,7 @@
-use Rattle.std.proofs.Common.{◌≡◌, ◌+◌, ◌∙◌, ℕ, List, length, ap, sym, subst, arith}
+use Rattle.std.proofs.Common.{◌≡◌, ◌+◌, ◌∙◌, ℕ, List, length, ap, subst, arith}
 use Rattle.sv_model.specs.Lists.{times, IsChosen}
 use Rattle.sv_model.specs.Counts.{count_of}
-use Rattle.sv_model.specs.Registers.{entry, change}
+use Rattle.sv_model.specs.Registers.{change}
 use Rattle.sv_model.proofs.HolderLaws.{found_read, written, counted-within, counted-ended, let_go}
 use Rattle.sv_model.proofs.holders.HolderRegister.release.Goals as goal
 

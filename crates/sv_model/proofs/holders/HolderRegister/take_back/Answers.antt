@@ -1,4 +1,4 @@
-use Rattle.std.proofs.Common.{◌≡◌, ◌+◌, ◌∙◌, ℕ, List, length, ap, sym, subst, arith}
+use Rattle.std.proofs.Common.{◌≡◌, ◌+◌, ℕ, length, ap, arith}
 use Rattle.std.proofs.lemmas.List.{take_all}
 use Rattle.sv_model.specs.Lists.{times}
 use Rattle.sv_model.specs.Counts.{count_of}

@@ -1,4 +1,4 @@
-use Rattle.std.proofs.Common.{◌∙◌, ◌<◌, ◌+◌, sym, subst, arith, length-set}
+use Rattle.std.proofs.Common.{◌∙◌, sym, subst, arith, length-set}
 use Rattle.sv_model.specs.Places.{Housed}
 use Rattle.sv_model.proofs.PlacedLaws.{added_housed, have_places}
 use Rattle.sv_model.proofs.placed.PlacedRegister.add.Goals as goal

@@ -1,5 +1,4 @@
-use Rattle.std.proofs.Common.{rules, ◌≡◌, ◌<◌, ◌∙◌, length, sym, ap, arith, length-set}
-use Rattle.sv_model.specs.Places.{Housed}
+use Rattle.std.proofs.Common.{rules, ◌<◌, ◌∙◌, ap, arith, length-set}
 use Rattle.sv_model.proofs.PlacedLaws.{place_within, ending, ended_housed, ended_is, have_places}
 use Rattle.sv_model.proofs.placed.PlacedRegister.end.Goals as goal
 

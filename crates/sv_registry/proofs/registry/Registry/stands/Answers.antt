@@ -1,6 +1,7 @@
 use Rattle.std.proofs.Common.{◌∙◌, sym, subst}
 use Rattle.std.proofs.lemmas.Bool.{eqb-true, eq-eqb}
-use Rattle.sv_model.specs.Places.{super_live, place_of, HavePlaces, IsIdAt}
+use Rattle.sv_model.specs.Named.{super_live}
+use Rattle.sv_model.specs.Places.{place_of, HavePlaces, IsIdAt}
 use Rattle.sv_registry.proofs.Packs.{stands_is, is_standing}
 use Rattle.sv_registry.proofs.registry.Registry.stands.Goals as goal
 
