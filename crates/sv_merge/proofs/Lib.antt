@@ -1,1 +1,6 @@
-mod PlacingLaws
+pub mod Built
+pub mod Newest
+pub mod PlacingLaws
+pub mod SameFirsts
+pub mod Sorting
+pub mod Stays
