@@ -8,9 +8,8 @@ use Rattle.sv_model.specs.declared.writes.Row.{Row}
 use Rattle.sv_model.specs.declared.writes.Kept.{Kept}
 use Rattle.sv_model.specs.declared.writes.Numbered.{Numbered}
 use Rattle.sv_model.specs.declared.cuts.Bottom.{Bottom}
-use Rattle.sv_model.specs.Journal.{same_key}
 use Rattle.sv_model.specs.Order.{RisesFrom, RisesBy, key_of_kept, key_of_numbered}
-use Rattle.sv_model.specs.Flat.{numbered_after, of_key, ends_of, stays, newest_each, IsFlatOf, CutsFrom, AreCuts}
+use Rattle.sv_model.specs.Flat.{numbered_after, of_key, ends_of, stays, IsFlatOf, CutsFrom, AreCuts}
 use Rattle.sv_model.proofs.FlatEnds.{among_is}
 use Rattle.sv_model.proofs.FlatFirsts.{firsts, mark, marks, has_key, NumbersFall, numbers_fall, numbers_filter, newest_firsts}
 use Rattle.sv_model.proofs.FlatLaws.{flat_of_keys, length_numbered}
@@ -83,9 +82,9 @@ built_flat from to bottom writes rows sorted are full permuted order =
     let rises : RisesBy key_of_kept kept = rises_placed cuts to sorted (stand_rises sorted up) in
     let fit : from + length writes ≤ to = omega arith in
     let own : (key : List ℕ) → of_key key kept ≡ marks (ends_of cuts to) key turned = λ (key : List ℕ).
-      of_placed cuts to key sorted
-      ∙ ap (map (placed cuts to)) (newest_rows from writes sorted (IsPermutation-trans (numbered_after from writes) rows sorted permuted order.same) up key)
-      ∙ placed_marks cuts to from to (filter (has_key key) turned) (omega arith) (numbers_filter (has_key key) from to turned (numbers_fall from writes from to (omega arith) fit)) in
+    of_placed cuts to key sorted
+    ∙ ap (map (placed cuts to)) (newest_rows from writes sorted (IsPermutation-trans (numbered_after from writes) rows sorted permuted order.same) up key)
+    ∙ placed_marks cuts to from to (filter (has_key key) turned) (omega arith) (numbers_filter (has_key key) from to turned (numbers_fall from writes from to (omega arith) fit)) in
     flat_of_keys from to bottom writes (thinned bottom.last (dedup same_place kept)) are fit (left_rises bottom.last kept rises) (λ key.
     left_key bottom.last key kept rises
     ∙ ap (λ (l : List Kept). stays bottom.last (firsts None l)) (own key)

@@ -1,5 +1,5 @@
 -- The order of numbered rows by key, in one key the newest first; rows that stand so are known by their numbers.
-use Rattle.std.proofs.Common.{◌≡◌, ℕ, zero, suc, ◌<◌, ◌≤◌, ◌+◌, ◌-◌, inl, inr, Bool, true, false, cond, ◌&&◌, ◌||◌, eqb, nat_lt, List, [], ◌∷◌, length, map, reverse, get_or, slice_get, Some, refl, sym, ap, subst, ◌∙◌, arith, Bor}
+use Rattle.std.proofs.Common.{◌≡◌, ℕ, suc, ◌<◌, ◌≤◌, ◌+◌, ◌-◌, inl, inr, Bool, true, false, cond, ◌&&◌, ◌||◌, eqb, nat_lt, List, [], ◌∷◌, length, reverse, get_or, slice_get, Some, refl, sym, ap, subst, ◌∙◌, arith, Bor}
 use Rattle.std.specs.declared.cmp.Ordering.{Ordering}
 use Rattle.std.specs.declared.cmp.Ordering.TheVariants.{Less, Equal, Greater}
 use Rattle.std.specs.Ordering.{nat_cmp, is_lt, is_eq, ordering_then}
@@ -7,10 +7,10 @@ use Rattle.std.specs.Cmp.{IsStrictWeakOrder}
 use Rattle.std.specs.Cmp.Lexicographic.{slice_cmp}
 use Rattle.std.specs.List.{filter, sum_by, AllByRecursion}
 use Rattle.std.specs.List.Sorted.{IsPermutation, IsSortedBy}
-use Rattle.std.proofs.lemmas.Bool.{cases_Bool, or_cases, or_parts, and_parts, and_from, eqb-true, eq-eqb, ne_eqb, ltb-true, ltb-false, le-ltb, both_ways}
+use Rattle.std.proofs.lemmas.Bool.{cases_Bool, or_cases, or_parts, and_parts, eq-eqb, ne_eqb, ltb-true, ltb-false, both_ways}
 use Rattle.std.proofs.lemmas.List.Sums.{sum_by-cons}
 use Rattle.std.proofs.lemmas.List.Elements.{All-from_recursion, recursion_from_All}
-use Rattle.std.proofs.lemmas.List.Sorted.{sum_by-IsPermutation, All-permutation, IsPermutation-reverse, IsPermutation-trans, IsPermutation-sym}
+use Rattle.std.proofs.lemmas.List.Sorted.{sum_by-IsPermutation, All-permutation, IsPermutation-reverse}
 use Rattle.std.proofs.Math.Numerals.{add-one}
 use Rattle.sv_model.specs.declared.writes.Row.{Row}
 use Rattle.sv_model.specs.declared.writes.Numbered.{Numbered}
@@ -19,7 +19,7 @@ use Rattle.sv_model.specs.Order.{is_below, comes_before, RisesFrom, RisesBy, key
 use Rattle.sv_model.specs.Flat.{numbered_after}
 use Rattle.sv_model.proofs.KeyOrder.{not_true, same_eq, same_yes, same_no, below_trans, below_other, above, not_back}
 use Rattle.sv_model.proofs.FlatFirsts.{has_key, NumbersFall, numbers_fall, numbers_filter}
-use Rattle.sv_model.proofs.FlatKeys.{below_self, not_below_trans}
+use Rattle.sv_model.proofs.FlatKeys.{not_below_trans}
 use Rattle.sv_merge.specs.Building.{is_ahead}
 
 -- ---- the test
@@ -47,7 +47,7 @@ ahead_before a b =
 
 -- neither is below the other
 level : (a b : List ℕ) → is_below a b ≡ false → is_below b a ≡ false → same_key a b ≡ true
-level a b p q = elim (cases_Bool (same_key a b)) [ | inl same ↦ same | inr other ↦ absurd (both_ways (is_below a b) p (above a b q other)) ]
+level a b p q = elim (cases_Bool (same_key a b)) [ inl same ↦ same | inr other ↦ absurd (both_ways (is_below a b) p (above a b q other)) ]
 
 one_way : (x y : Numbered) → before x y ≡ true → before y x ≡ false
 one_way x y h = not_true (before y x) (λ t. elim (or_cases (is_below x.row.key y.row.key) (same_key x.row.key y.row.key && nat_lt y.number x.number) h) [
@@ -56,14 +56,14 @@ one_way x y h = not_true (before y x) (λ t. elim (or_cases (is_below x.row.key 
     | inr both ↦ below_other x.row.key y.row.key low (sym (same_eq y.row.key x.row.key (and_parts (same_key y.row.key x.row.key) (nat_lt x.number y.number) both).0))
   ]
   | inr both ↦
-    let parts = and_parts (same_key x.row.key y.row.key) (nat_lt y.number x.number) both in
-    elim (or_cases (is_below y.row.key x.row.key) (same_key y.row.key x.row.key && nat_lt x.number y.number) t) [
-      | inl back ↦ below_other y.row.key x.row.key back (sym (same_eq x.row.key y.row.key parts.0))
-      | inr too ↦
-        let more = ltb-true x.number y.number (and_parts (same_key y.row.key x.row.key) (nat_lt x.number y.number) too).1 in
-        let less = ltb-true y.number x.number parts.1 in
-        omega arith
-    ]
+      let parts = and_parts (same_key x.row.key y.row.key) (nat_lt y.number x.number) both in
+      elim (or_cases (is_below y.row.key x.row.key) (same_key y.row.key x.row.key && nat_lt x.number y.number) t) [
+        | inl back ↦ below_other y.row.key x.row.key back (sym (same_eq x.row.key y.row.key parts.0))
+        | inr too ↦
+            let more = ltb-true x.number y.number (and_parts (same_key y.row.key x.row.key) (nat_lt x.number y.number) too).1 in
+            let less = ltb-true y.number x.number parts.1 in
+            omega arith
+      ]
 ])
 
 -- where one does not come before another of the same key its number is not greater
@@ -81,12 +81,12 @@ chain x y z p q =
     not_true (before x z) (λ t. elim (or_cases (is_below x.row.key z.row.key) (same_key x.row.key z.row.key && nat_lt z.number x.number) t) [
       | inl low ↦ both_ways (is_below x.row.key z.row.key) far low
       | inr both ↦
-        let parts = and_parts (same_key x.row.key z.row.key) (nat_lt z.number x.number) both in
-        let e = same_eq x.row.key z.row.key parts.0 in
-        let first : same_key x.row.key y.row.key ≡ true = level x.row.key y.row.key (not_lower x y p) (subst (λ (k : List ℕ). is_below y.row.key k ≡ false) (sym e) (not_lower y z q)) in
-        let second : same_key y.row.key z.row.key ≡ true = same_yes y.row.key z.row.key (sym (same_eq x.row.key y.row.key first) ∙ e) in
-        let less = ltb-true z.number x.number parts.1 in
-        omega (arith, not_greater x y p first, not_greater y z q second, less)
+          let parts = and_parts (same_key x.row.key z.row.key) (nat_lt z.number x.number) both in
+          let e = same_eq x.row.key z.row.key parts.0 in
+          let first : same_key x.row.key y.row.key ≡ true = level x.row.key y.row.key (not_lower x y p) (subst (λ (k : List ℕ). is_below y.row.key k ≡ false) (sym e) (not_lower y z q)) in
+          let second : same_key y.row.key z.row.key ≡ true = same_yes y.row.key z.row.key (sym (same_eq x.row.key y.row.key first) ∙ e) in
+          let less = ltb-true z.number x.number parts.1 in
+          omega (arith, not_greater x y p first, not_greater y z q second, less)
     ])
 
 pub ahead_weak : IsStrictWeakOrder is_ahead
@@ -147,11 +147,11 @@ key_falls : (low : ℕ) (key : List ℕ) (x : Numbered) (rows : List Numbered) �
 key_falls low key x [] own up all = tt
 key_falls low key x (y ∷ rows) own up all = elim (cases_Bool (has_key key y)) [
   | inl same ↦
-    let e : same_key y.row.key x.row.key ≡ true = same_yes y.row.key x.row.key (sym (same_eq key y.row.key same) ∙ same_eq key x.row.key own) in
-    subst (NumbersFall low x.number) (sym (own_key key y rows same)) (not_greater y x up.0 e, all.0, key_falls low key y rows same up.1 all.1)
+      let e : same_key y.row.key x.row.key ≡ true = same_yes y.row.key x.row.key (sym (same_eq key y.row.key same) ∙ same_eq key x.row.key own) in
+      subst (NumbersFall low x.number) (sym (own_key key y rows same)) (not_greater y x up.0 e, all.0, key_falls low key y rows same up.1 all.1)
   | inr other ↦
-    let high : is_below key y.row.key ≡ true = above key y.row.key (subst (λ (k : List ℕ). is_below y.row.key k ≡ false) (sym (same_eq key x.row.key own)) (not_lower y x up.0)) other in
-    subst (NumbersFall low x.number) (sym (no_key key y rows other ∙ none_behind key y rows high up.1)) tt
+      let high : is_below key y.row.key ≡ true = above key y.row.key (subst (λ (k : List ℕ). is_below y.row.key k ≡ false) (sym (same_eq key x.row.key own)) (not_lower y x up.0)) other in
+      subst (NumbersFall low x.number) (sym (no_key key y rows other ∙ none_behind key y rows high up.1)) tt
 ]
 
 stand_rest : (x : Numbered) (rows : List Numbered) → StandFrom x rows → Stand rows
@@ -198,7 +198,6 @@ not_less low high x y xs ys fall same =
     ]
 
 module _ (P : Numbered → Type 0) (one : (a b : Numbered) → P a → P b → a.number ≡ b.number → a ≡ b) (low : ℕ) where
-
   pub same_falling : (high most : ℕ) (xs ys : List Numbered) → NumbersFall low high xs → NumbersFall low most ys → AllByRecursion P xs → AllByRecursion P ys → ((m : ℕ) → often m xs ≡ often m ys) → xs ≡ ys
   same_falling high most [] [] fall falls all alls same = refl
   same_falling high most [] (y ∷ ys) fall falls all alls same = absurd (omega (arith, same y.number, sum_by-cons (has_number y.number) y ys, own_number y))
@@ -208,7 +207,7 @@ module _ (P : Numbered → Type 0) (one : (a b : Numbered) → P a → P b → a
       let right = not_less low high y x ys xs fall (sym (same y.number)) in
       let head : x ≡ y = one x y all.0 alls.0 (omega arith) in
       let rest : xs ≡ ys = same_falling x.number y.number xs ys fall.2 falls.2 all.1 alls.1 (λ m.
-        let e = ap (has_number m) head in omega (arith, same m, e, sum_by-cons (has_number m) x xs, sum_by-cons (has_number m) y ys)) in
+      let e = ap (has_number m) head in omega (arith, same m, e, sum_by-cons (has_number m) x xs, sum_by-cons (has_number m) y ys)) in
       (λ i. head i ∷ rest i)
 
 -- ---- the writes of a range
@@ -228,9 +227,10 @@ one_numbered from all a b p q e =
 numbered_from : (from : ℕ) (all : List Row) (before k : ℕ) (rest : List Row) → before ≡ from + k → k + length rest ≡ length all → ((i : ℕ) → slice_get rest i ≡ slice_get all (k + i)) → AllByRecursion (IsNumbered from all) (numbered_after before rest)
 numbered_from from all before k [] is len at = tt
 numbered_from from all before k (w ∷ rest) is len at =
-    let here : suc before - suc from ≡ k + 0 = omega (arith, is) in
-    ((omega (arith, is), omega (arith, is, len), ap (slice_get all) here ∙ sym (at 0)),
-    numbered_from from all (suc before) (suc k) rest (omega (arith, is)) (omega (arith, len)) (λ i. at (suc i) ∙ ap (slice_get all) (let e : k + suc i ≡ suc k + i = omega arith in e)))
+    let here : suc before - suc from ≡ k + 0 = omega (arith, is) in (
+      (omega (arith, is), omega (arith, is, len), ap (slice_get all) here ∙ sym (at 0)),
+      numbered_from from all (suc before) (suc k) rest (omega (arith, is)) (omega (arith, len)) (λ i. at (suc i) ∙ ap (slice_get all) (let e : k + suc i ≡ suc k + i = omega arith in e)),
+    )
 
 are_numbered : (from : ℕ) (all : List Row) → AllByRecursion (IsNumbered from all) (numbered_after from all)
 are_numbered from all = numbered_from from all from 0 all (omega arith) (omega arith) (λ i. ap (slice_get all) (let e : i ≡ 0 + i = omega arith in e))

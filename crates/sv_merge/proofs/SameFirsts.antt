@@ -1,8 +1,7 @@
 -- When lists of rows have the same first rows of each end, whatever stands before and after them.
-use Rattle.std.proofs.Common.{◌≡◌, ℕ, inl, inr, Bool, true, false, cond, ◌&&◌, List, [], ◌∷◌, ◌++◌, map, Option, Some, None, refl, sym, ap, subst, ◌∙◌, append_assoc}
-use Rattle.std.specs.List.{AllByRecursion}
+use Rattle.std.proofs.Common.{◌≡◌, ℕ, Bool, true, false, cond, ◌&&◌, List, [], ◌∷◌, ◌++◌, map, Option, Some, None, refl, sym, ap, ◌∙◌, append_assoc}
 use Rattle.std.proofs.lemmas.Bool.{eqb-true, eq-eqb, and_from}
-use Rattle.std.proofs.lemmas.List.{append-nil, map-append}
+use Rattle.std.proofs.lemmas.List.{map-append}
 use Rattle.sv_model.specs.declared.writes.Kept.{Kept}
 use Rattle.sv_model.specs.Journal.{is_delete}
 use Rattle.sv_model.specs.Flat.{end_among, is_empty, without_last_deletes, stays}
@@ -34,7 +33,6 @@ same_trans xs ys zs p q last more = p last more ∙ q last more
 -- ---- the first of each end, once more under new ends
 
 module _ (cuts : List ℕ) (to : ℕ) where
-
   abbrev Follows : Option ℕ → Option ℕ → Type 0
   Follows None new = Unit {0}
   Follows (Some e) new = new ≡ Some (end_among cuts to e)
@@ -58,7 +56,7 @@ module _ (cuts : List ℕ) (to : ℕ) where
           → firsts new (map (moved cuts to) (firsts old rows) ++ more) ≡ firsts new (map (moved cuts to) rows ++ more)
           → ((n : Option ℕ) → Follows (Some r.end) n → firsts n (map (moved cuts to) (firsts (Some r.end) rows) ++ more) ≡ firsts n (map (moved cuts to) rows ++ more))
           → firsts new (map (moved cuts to) (cond b (firsts old rows) (r ∷ firsts (Some r.end) rows)) ++ more)
-            ≡ cond c (firsts new (map (moved cuts to) rows ++ more)) (moved cuts to r ∷ firsts (Some (end_among cuts to r.end)) (map (moved cuts to) rows ++ more))
+          ≡ cond c (firsts new (map (moved cuts to) rows ++ more)) (moved cuts to r ∷ firsts (Some (end_among cuts to r.end)) (map (moved cuts to) rows ++ more))
       at true e c is skip next =
           skip ∙ ap (λ (b : Bool). cond b (firsts new (map (moved cuts to) rows ++ more)) (moved cuts to r ∷ firsts (Some (end_among cuts to r.end)) (map (moved cuts to) rows ++ more)))
           (sym (again_new old new r.end follows e) ∙ is)
@@ -117,8 +115,8 @@ oldest_stays cuts to true true front rows h =
     let split = deletes_left rows in
     let m = moved cuts to in
     let whole : front ++ map m rows ≡ (front ++ map m (without_last_deletes rows)) ++ map m split.0 =
-      ap (λ (l : List Kept). front ++ map m l) split.1
-      ∙ ap (λ (l : List Kept). front ++ l) (map-append m (without_last_deletes rows) split.0)
-      ∙ sym (append_assoc front (map m (without_last_deletes rows)) (map m split.0)) in
+    ap (λ (l : List Kept). front ++ map m l) split.1
+    ∙ ap (λ (l : List Kept). front ++ l) (map-append m (without_last_deletes rows) split.0)
+    ∙ sym (append_assoc front (map m (without_last_deletes rows)) (map m split.0)) in
     sym (ap (λ (l : List Kept). without_last_deletes (firsts None l)) whole
     ∙ old_deletes (front ++ map m (without_last_deletes rows)) (map m split.0) (moved_deletes cuts to split.0 split.2))

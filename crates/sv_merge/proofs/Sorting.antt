@@ -1,10 +1,8 @@
 -- A stable sort by key keeps the rows of each key as they stood.
-use Rattle.std.proofs.Common.{◌≡◌, ℕ, suc, ◌<◌, Bool, true, false, cond, List, [], ◌∷◌, length, map, get_or, refl, sym, ap, subst, ◌∙◌, arith, Bor}
+use Rattle.std.proofs.Common.{◌≡◌, ℕ, suc, ◌<◌, Bool, true, false, cond, List, [], ◌∷◌, length, get_or, refl, sym, ap, subst, ◌∙◌, arith}
 use Rattle.std.specs.List.{filter}
 use Rattle.std.specs.List.Sorted.{IsSortedBy, IsStableBy, ties}
 use Rattle.std.proofs.Math.Numerals.{add-one}
-use Rattle.sv_model.specs.declared.writes.Row.{Row}
-use Rattle.sv_model.specs.declared.writes.Kept.{Kept}
 use Rattle.sv_model.specs.Journal.{same_key}
 use Rattle.sv_model.specs.Order.{is_below, RisesFrom, RisesBy, key_of_kept}
 use Rattle.sv_model.specs.Flat.{of_key}
@@ -54,4 +52,4 @@ same_in [] (x ∷ new) stable len key = absurd (omega (arith, len))
 same_in (x ∷ old) new stable len key = same_by (x ∷ old) new stable x key
 
 pub in_order : (old new : List Placed) → IsSortedBy below new → IsStableBy below old new → length new ≡ length old → InOrder (kepts_of old) (kepts_of new)
-in_order old new up stable len = record { rises = rises new up; kept = same_in old new stable len; }
+in_order old new up stable len = record { rises = rises new up; kept = same_in old new stable len }

@@ -1,14 +1,14 @@
 -- What stays of rows by key, told by key: the first of each end, and where nothing lies below no delete under which no
 -- put stays.
-use Rattle.std.proofs.Common.{◌≡◌, ℕ, zero, suc, inl, inr, Bool, true, false, cond, not, ◌&&◌, eqb, List, [], ◌∷◌, Option, Some, None, refl, sym, ap, subst, ◌∙◌}
+use Rattle.std.proofs.Common.{◌≡◌, ℕ, inl, inr, Bool, true, false, cond, not, ◌&&◌, eqb, List, [], ◌∷◌, Some, None, refl, sym, ap, subst, ◌∙◌}
 use Rattle.std.specs.List.{dedup, dedup_from}
-use Rattle.std.proofs.lemmas.Bool.{cases_Bool, both_ways, and_from, and_parts, and_left}
+use Rattle.std.proofs.lemmas.Bool.{cases_Bool, both_ways, and_from, and_parts}
 use Rattle.sv_model.specs.declared.writes.Kept.{Kept}
 use Rattle.sv_model.specs.Journal.{same_key, is_delete}
 use Rattle.sv_model.specs.Order.{is_below, RisesFrom, RisesBy, key_of_kept}
 use Rattle.sv_model.specs.Flat.{of_key, is_empty, without_last_deletes, stays}
 use Rattle.sv_model.proofs.KeyOrder.{not_true, same_eq, same_yes, same_no, above}
-use Rattle.sv_model.proofs.FlatFirsts.{is_last, firsts}
+use Rattle.sv_model.proofs.FlatFirsts.{firsts}
 use Rattle.sv_model.proofs.FlatKeys.{below_self, rises_as, rises_lower, rises_rest, key_yes, key_no, gone}
 use Rattle.sv_merge.specs.Placing.{same_place, is_next, thinned}
 
@@ -36,34 +36,34 @@ skip_again key p q rows e =
     let parts = and_parts (eqb q.end p.end) (same_key q.row.key p.row.key) e in
     elim (cases_Bool (same_key key p.row.key)) [
       | inl same ↦
-        let too : same_key key q.row.key ≡ true = same_yes key q.row.key (same_eq key p.row.key same ∙ sym (same_eq q.row.key p.row.key parts.1)) in
-        ap (firsts None) (key_yes key p rows same)
-        ∙ ap (λ (l : List Kept). p ∷ l) (sym (first_again p q (of_key key rows) parts.0))
-        ∙ sym (ap (firsts None) (key_yes key p (q ∷ rows) same ∙ ap (λ (l : List Kept). p ∷ l) (key_yes key q rows too)))
+          let too : same_key key q.row.key ≡ true = same_yes key q.row.key (same_eq key p.row.key same ∙ sym (same_eq q.row.key p.row.key parts.1)) in
+          ap (firsts None) (key_yes key p rows same)
+          ∙ ap (λ (l : List Kept). p ∷ l) (sym (first_again p q (of_key key rows) parts.0))
+          ∙ sym (ap (firsts None) (key_yes key p (q ∷ rows) same ∙ ap (λ (l : List Kept). p ∷ l) (key_yes key q rows too)))
       | inr other ↦
-        let neither : same_key key q.row.key ≡ false = subst (λ (k : List ℕ). same_key key k ≡ false) (sym (same_eq q.row.key p.row.key parts.1)) other in
-        ap (firsts None) (key_no key p rows other) ∙ sym (ap (firsts None) (key_no key p (q ∷ rows) other ∙ key_no key q rows neither))
+          let neither : same_key key q.row.key ≡ false = subst (λ (k : List ℕ). same_key key k ≡ false) (sym (same_eq q.row.key p.row.key parts.1)) other in
+          ap (firsts None) (key_no key p rows other) ∙ sym (ap (firsts None) (key_no key p (q ∷ rows) other ∙ key_no key q rows neither))
     ]
 
 -- a row of another place begins anew
 begin_next : (key : List ℕ) (p q : Kept) (rows : List Kept) → same_place q p ≡ false → is_below q.row.key p.row.key ≡ false → RisesFrom key_of_kept q rows → same_key key p.row.key ≡ true → firsts None (of_key key (q ∷ rows)) ≡ firsts (Some p.end) (of_key key (q ∷ rows))
 begin_next key p q rows e low up same = elim (cases_Bool (same_key key q.row.key)) [
   | inl too ↦
-    let level : same_key q.row.key p.row.key ≡ true = same_yes q.row.key p.row.key (sym (same_eq key q.row.key too) ∙ same_eq key p.row.key same) in
-    let apart : eqb q.end p.end ≡ false = not_true (eqb q.end p.end) (λ t. both_ways (same_place q p) e (and_from (eqb q.end p.end) (same_key q.row.key p.row.key) t level)) in
-    ap (firsts None) (key_yes key q rows too) ∙ sym (first_next p q (of_key key rows) apart) ∙ ap (firsts (Some p.end)) (sym (key_yes key q rows too))
+      let level : same_key q.row.key p.row.key ≡ true = same_yes q.row.key p.row.key (sym (same_eq key q.row.key too) ∙ same_eq key p.row.key same) in
+      let apart : eqb q.end p.end ≡ false = not_true (eqb q.end p.end) (λ t. both_ways (same_place q p) e (and_from (eqb q.end p.end) (same_key q.row.key p.row.key) t level)) in
+      ap (firsts None) (key_yes key q rows too) ∙ sym (first_next p q (of_key key rows) apart) ∙ ap (firsts (Some p.end)) (sym (key_yes key q rows too))
   | inr other ↦
-    let higher : is_below key q.row.key ≡ true = above key q.row.key (subst (λ (k : List ℕ). is_below q.row.key k ≡ false) (sym (same_eq key p.row.key same)) low) other in
-    let none : of_key key (q ∷ rows) ≡ [] = key_no key q rows other ∙ gone key q rows higher up in
-    ap (firsts None) none ∙ ap (firsts (Some p.end)) (sym none)
+      let higher : is_below key q.row.key ≡ true = above key q.row.key (subst (λ (k : List ℕ). is_below q.row.key k ≡ false) (sym (same_eq key p.row.key same)) low) other in
+      let none : of_key key (q ∷ rows) ≡ [] = key_no key q rows other ∙ gone key q rows higher up in
+      ap (firsts None) none ∙ ap (firsts (Some p.end)) (sym none)
 ]
 
 step_next : (key : List ℕ) (p q : Kept) (rows left : List Kept) → same_place q p ≡ false → is_below q.row.key p.row.key ≡ false → RisesFrom key_of_kept q rows → of_key key left ≡ first_of key (q ∷ rows) → of_key key (p ∷ left) ≡ first_of key (p ∷ q ∷ rows)
 step_next key p q rows left e low up ih = elim (cases_Bool (same_key key p.row.key)) [
   | inl same ↦
-    key_yes key p left same
-    ∙ ap (λ (l : List Kept). p ∷ l) (ih ∙ begin_next key p q rows e low up same)
-    ∙ sym (ap (firsts None) (key_yes key p (q ∷ rows) same))
+      key_yes key p left same
+      ∙ ap (λ (l : List Kept). p ∷ l) (ih ∙ begin_next key p q rows e low up same)
+      ∙ sym (ap (firsts None) (key_yes key p (q ∷ rows) same))
   | inr other ↦ key_no key p left other ∙ ih ∙ sym (ap (firsts None) (key_no key p (q ∷ rows) other))
 ]
 
@@ -78,10 +78,10 @@ dedup_key_from : (key : List ℕ) (p : Kept) (rows : List Kept) → RisesFrom ke
 dedup_key_from key p [] up = one_first key p
 dedup_key_from key p (q ∷ rows) up = elim (cases_Bool (same_place q p)) [
   | inl e ↦
-    let level = same_eq q.row.key p.row.key (and_parts (eqb q.end p.end) (same_key q.row.key p.row.key) e).1 in
-    ap (of_key key) (again p q rows e) ∙ dedup_key_from key p rows (rises_as q p rows level up.1) ∙ skip_again key p q rows e
+      let level = same_eq q.row.key p.row.key (and_parts (eqb q.end p.end) (same_key q.row.key p.row.key) e).1 in
+      ap (of_key key) (again p q rows e) ∙ dedup_key_from key p rows (rises_as q p rows level up.1) ∙ skip_again key p q rows e
   | inr e ↦
-    ap (of_key key) (next p q rows e) ∙ step_next key p q rows (dedup_from same_place q rows) e up.0 up.1 (dedup_key_from key q rows up.1)
+      ap (of_key key) (next p q rows e) ∙ step_next key p q rows (dedup_from same_place q rows) e up.0 up.1 (dedup_key_from key q rows up.1)
 ]
 
 pub dedup_key : (key : List ℕ) (rows : List Kept) → RisesBy key_of_kept rows → of_key key (dedup same_place rows) ≡ firsts None (of_key key rows)
@@ -92,8 +92,8 @@ dedup_rises_from : (p q : Kept) (rows : List Kept) → is_below q.row.key p.row.
 dedup_rises_from p q [] low up = (low, tt)
 dedup_rises_from p q (r ∷ rows) low up = elim (cases_Bool (same_place r q)) [
   | inl e ↦
-    let level = same_eq r.row.key q.row.key (and_parts (eqb r.end q.end) (same_key r.row.key q.row.key) e).1 in
-    subst (RisesFrom key_of_kept p) (sym (again q r rows e)) (dedup_rises_from p q rows low (rises_as r q rows level up.1))
+      let level = same_eq r.row.key q.row.key (and_parts (eqb r.end q.end) (same_key r.row.key q.row.key) e).1 in
+      subst (RisesFrom key_of_kept p) (sym (again q r rows e)) (dedup_rises_from p q rows low (rises_as r q rows level up.1))
   | inr e ↦ subst (RisesFrom key_of_kept p) (sym (next q r rows e)) (low, dedup_rises_from q r rows up.0 up.1)
 ]
 
@@ -146,12 +146,12 @@ next_is : (key : List ℕ) (r : Kept) (left : List Kept) → key ≡ r.row.key �
 next_is key r [] e up = refl
 next_is key r (q ∷ left) e up = elim (cases_Bool (same_key q.row.key r.row.key)) [
   | inl same ↦
-    let own : same_key key q.row.key ≡ true = same_yes key q.row.key (e ∙ sym (same_eq q.row.key r.row.key same)) in
-    ap not same ∙ sym (ap is_empty (key_yes key q left own))
+      let own : same_key key q.row.key ≡ true = same_yes key q.row.key (e ∙ sym (same_eq q.row.key r.row.key same)) in
+      ap not same ∙ sym (ap is_empty (key_yes key q left own))
   | inr other ↦
-    let not_own : same_key key q.row.key ≡ false = same_no key q.row.key (λ is. both_ways (same_key q.row.key r.row.key) other (same_yes q.row.key r.row.key (sym is ∙ e))) in
-    let higher : is_below key q.row.key ≡ true = above key q.row.key (subst (λ (k : List ℕ). is_below q.row.key k ≡ false) (sym e) up.0) not_own in
-    ap not other ∙ sym (ap is_empty (key_no key q left not_own ∙ gone key q left higher up.1))
+      let not_own : same_key key q.row.key ≡ false = same_no key q.row.key (λ is. both_ways (same_key q.row.key r.row.key) other (same_yes q.row.key r.row.key (sym is ∙ e))) in
+      let higher : is_below key q.row.key ≡ true = above key q.row.key (subst (λ (k : List ℕ). is_below q.row.key k ≡ false) (sym e) up.0) not_own in
+      ap not other ∙ sym (ap is_empty (key_no key q left not_own ∙ gone key q left higher up.1))
 ]
 
 thin_own : (key : List ℕ) (r : Kept) (left : List Kept) (b : Bool) → same_key key r.row.key ≡ true → b ≡ (is_delete r.row.op && is_empty (of_key key left)) → of_key key (cond b left (r ∷ left)) ≡ cond (is_delete r.row.op && is_empty (of_key key left)) [] (r ∷ of_key key left)
@@ -175,12 +175,12 @@ thin_key key (r ∷ rows) up =
     let ih : of_key key left ≡ without_last_deletes (of_key key rows) = thin_key key rows (rises_rest r rows up) in
     elim (cases_Bool (same_key key r.row.key)) [
       | inl same ↦
-        let drops = ap (λ (b : Bool). is_delete r.row.op && b) (next_is key r left (same_eq key r.row.key same) (thin_rises_from true r rows up)) in
-        thin_own key r left (is_delete r.row.op && not (is_next r.row.key left)) same drops
-        ∙ ap (λ (l : List Kept). cond (is_delete r.row.op && is_empty l) [] (r ∷ l)) ih
-        ∙ sym (ap without_last_deletes (key_yes key r rows same))
+          let drops = ap (λ (b : Bool). is_delete r.row.op && b) (next_is key r left (same_eq key r.row.key same) (thin_rises_from true r rows up)) in
+          thin_own key r left (is_delete r.row.op && not (is_next r.row.key left)) same drops
+          ∙ ap (λ (l : List Kept). cond (is_delete r.row.op && is_empty l) [] (r ∷ l)) ih
+          ∙ sym (ap without_last_deletes (key_yes key r rows same))
       | inr other ↦
-        thin_other key r left (is_delete r.row.op && not (is_next r.row.key left)) other ∙ ih ∙ sym (ap without_last_deletes (key_no key r rows other))
+          thin_other key r left (is_delete r.row.op && not (is_next r.row.key left)) other ∙ ih ∙ sym (ap without_last_deletes (key_no key r rows other))
     ]
 
 -- ---- both

@@ -18,9 +18,9 @@ returns-clause-flat c = λ writes permuted.
     let sorted : List Numbered = map (λ (n : Bor Numbered). n.now) c.in_ok-sorted.sorted.items in
     let full : c.args.from + length writes ≡ c.args.to = ap (λ (k : ℕ). c.args.from + k) (same_length c.args.from writes given.0 c.args.rows.now permuted given.2) ∙ given.1 in
     let is : c.from_vec.result ≡ thinned c.args.bottom.last (dedup same_place (map (placed c.args.bottom.cuts c.args.to) sorted)) =
-      c.from_vec.ensures
-      ∙ c.in_ok-rows.ensures
-      ∙ ap (λ (l : List Kept). thinned c.args.bottom.last (dedup same_place l))
-      (c.in_ok-placed.ensures ∙ (λ i. map (placed (c.as_slice-cuts.ensures.cuts i) c.args.to) (map (λ (n : Bor Numbered). n.now) (c.deref.ensures.value i)))) in
+    c.from_vec.ensures
+    ∙ c.in_ok-rows.ensures
+    ∙ ap (λ (l : List Kept). thinned c.args.bottom.last (dedup same_place l))
+    (c.in_ok-placed.ensures ∙ (λ i. map (placed (c.as_slice-cuts.ensures.cuts i) c.args.to) (map (λ (n : Bor Numbered). n.now) (c.deref.ensures.value i)))) in
     subst (λ (x : List Kept). IsFlatOf c.args.from c.args.to c.args.bottom writes x) (sym is)
     (built_flat c.args.from c.args.to c.args.bottom writes c.args.rows.now sorted c.requires.cuts full permuted c.in_ok-sorted.ensures)
