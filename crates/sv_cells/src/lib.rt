@@ -1,6 +1,6 @@
 //! The records of memtables: each is made at the least free cell, and kept for ever once Gone.
 #![tactic(auto)]
 
-mod memtables;
+mod memtable_register;
 
-pub use memtables::{CELLS, Memtables};
+pub use memtable_register::{MAX_CELLS, MAX_MEMTABLES, MemtableRegister};

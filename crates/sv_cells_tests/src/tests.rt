@@ -1,9 +1,9 @@
 // The memtables: their limit, their cells, and what stands of those that ended.
 use std::rt::HostRuntime;
-use sv_cells::{CELLS, Memtables};
+use sv_cells::{MAX_CELLS, MemtableRegister};
 use sv_model::{FamilyId, MemId, Memtable, Refusal};
 
-fn make(memtables: &mut Memtables, family: u8, first: u64) -> Result<MemId, Refusal> {
+fn make(memtables: &mut MemtableRegister, family: u8, first: u64) -> Result<MemId, Refusal> {
     if memtables.made() >= u32::MAX as u64 {
         return Err(Refusal::RegisterFull);
     }
@@ -11,7 +11,7 @@ fn make(memtables: &mut Memtables, family: u8, first: u64) -> Result<MemId, Refu
 }
 
 // Ends the memtable if it is one that is not Gone, and says whether it was.
-fn ends(memtables: &mut Memtables, id: u32) -> bool {
+fn ends(memtables: &mut MemtableRegister, id: u32) -> bool {
     let Some(record) = memtables.record(MemId(id)) else {
         return false;
     };
@@ -22,7 +22,7 @@ fn ends(memtables: &mut Memtables, id: u32) -> bool {
     true
 }
 
-fn stands_at(memtables: &Memtables, id: u32) -> Option<u8> {
+fn stands_at(memtables: &MemtableRegister, id: u32) -> Option<u8> {
     let record = memtables.record(MemId(id))?;
     if !record.live {
         return None;
@@ -32,8 +32,8 @@ fn stands_at(memtables: &Memtables, id: u32) -> Option<u8> {
 
 #[test]
 fn has_a_cell_for_each(rt: HostRuntime) {
-    let mut memtables = Memtables::new(rt.alloc());
-    for cell in 0..CELLS as u32 {
+    let mut memtables = MemtableRegister::new(rt.alloc());
+    for cell in 0..MAX_CELLS as u32 {
         assert!(rt; !memtables.is_full());
         assert_eq!(rt; make(&mut memtables, 0, 0), Ok(MemId(cell + 1)));
         assert_eq!(rt; stands_at(&memtables, cell + 1), Some(cell as u8));
@@ -54,7 +54,7 @@ fn has_a_cell_for_each(rt: HostRuntime) {
 
 #[test]
 fn gives_the_least_free_cell(rt: HostRuntime) {
-    let mut memtables = Memtables::new(rt.alloc());
+    let mut memtables = MemtableRegister::new(rt.alloc());
     for id in 1..=5 {
         assert_eq!(rt; make(&mut memtables, 0, 0), Ok(MemId(id)));
     }
@@ -67,7 +67,7 @@ fn gives_the_least_free_cell(rt: HostRuntime) {
 
 #[test]
 fn makes_and_ends_in_turn(rt: HostRuntime) {
-    let mut memtables = Memtables::new(rt.alloc());
+    let mut memtables = MemtableRegister::new(rt.alloc());
     for id in 1..=100_000u32 {
         assert_eq!(rt; make(&mut memtables, 3, id as u64), Ok(MemId(id)));
         assert_eq!(rt; stands_at(&memtables, id), Some(0));
@@ -79,7 +79,7 @@ fn makes_and_ends_in_turn(rt: HostRuntime) {
 
 #[test]
 fn keeps_every_record(rt: HostRuntime) {
-    let mut memtables = Memtables::new(rt.alloc());
+    let mut memtables = MemtableRegister::new(rt.alloc());
     assert!(rt; memtables.record(MemId(0)).is_none() && memtables.record(MemId(1)).is_none());
     assert_eq!(rt; make(&mut memtables, 15, 700), Ok(MemId(1)));
     assert_eq!(rt; make(&mut memtables, 2, 9), Ok(MemId(2)));
@@ -102,7 +102,7 @@ fn keeps_every_record(rt: HostRuntime) {
 }
 
 // The id of a memtable that was made and taken back.
-fn taken_back(memtables: &mut Memtables) -> Result<MemId, Refusal> {
+fn taken_back(memtables: &mut MemtableRegister) -> Result<MemId, Refusal> {
     if memtables.made() >= u32::MAX as u64 {
         return Err(Refusal::RegisterFull);
     }
@@ -113,8 +113,8 @@ fn taken_back(memtables: &mut Memtables) -> Result<MemId, Refusal> {
 
 #[test]
 fn gives_the_id_again(rt: HostRuntime) {
-    let mut memtables = Memtables::new(rt.alloc());
-    for id in 1..=CELLS as u32 {
+    let mut memtables = MemtableRegister::new(rt.alloc());
+    for id in 1..=MAX_CELLS as u32 {
         assert_eq!(rt; taken_back(&mut memtables), Ok(MemId(id)));
         assert!(rt; memtables.record(MemId(id)).is_none() && !memtables.is_full());
         assert_eq!(rt; make(&mut memtables, 0, 0), Ok(MemId(id)));

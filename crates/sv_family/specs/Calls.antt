@@ -8,7 +8,12 @@ use Rattle.sv_model.specs.Families.{first_options}
 
 -- the family that a lane makes: it alone has a handle
 abbrev pub new_family : ℕ → List ℕ → Family
-new_family lane name = record { name = name; options = first_options; dropped = false; handles = slice_set (replicate 32 false) lane true }
+new_family lane name = record {
+  name = name;
+  options = first_options;
+  dropped = false;
+  handles = slice_set (replicate 32 false) lane true;
+}
 
 -- The lane made a family of this name, which has the next id.
 pub record IsCreated (old : List Family) (lane : ℕ) (name : List ℕ) (id : ℕ) (new : List Family) : Type 0 where
@@ -29,9 +34,9 @@ with_handle lane held f = record f { handles = slice_set f.handles lane held }
 abbrev pub as_dropped : Family → Family
 as_dropped f = record f { dropped = true }
 
-abbrev pub option_set : OptionName → ℕ → Options → Options
-option_set MemtableRows value o = record o { memtable_rows = value }
-option_set MaxImmutable value o = record o { max_immutable = value }
+abbrev pub with_option : OptionName → ℕ → Options → Options
+with_option MemtableRows value o = record o { memtable_rows = value }
+with_option MaxImmutable value o = record o { max_immutable = value }
 
-abbrev pub with_option : OptionName → ℕ → Family → Family
-with_option option value f = record f { options = option_set option value f.options }
+abbrev pub as_set : OptionName → ℕ → Family → Family
+as_set option value f = record f { options = with_option option value f.options }

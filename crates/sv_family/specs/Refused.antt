@@ -6,6 +6,7 @@ use Rattle.sv_model.specs.declared.records.Family.{Family}
 use Rattle.sv_model.specs.declared.settings.OptionName.{OptionName}
 use Rattle.sv_model.specs.declared.refusals.Refusal.{Refusal}
 use Rattle.sv_model.specs.declared.refusals.Refusal.TheVariants as refusal
+use Rattle.sv_family.specs.declared.making.TheConstants.{MAX_FAMILIES}
 use Rattle.sv_model.specs.Families.{default_name, greatest_of}
 use Rattle.sv_model.specs.Refusals.{first_due}
 
@@ -34,7 +35,9 @@ abbrev pub default_fault : List ℕ → Option Refusal
 default_fault name = when (bytes_eq name default_name) refusal.IsDefault
 
 abbrev pub option_fault : OptionName → ℕ → Option Refusal
-option_fault option value = when (not (nat_le 1 value && nat_le value (greatest_of option))) (refusal.BadOption value 1 (greatest_of option))
+option_fault option value =
+    when (not (nat_le 1 value && nat_le value (greatest_of option)))
+    (refusal.BadOption value 1 (greatest_of option))
 
 abbrev pub taken_fault : List Family → List ℕ → Option Refusal
 taken_fault families name = when (stands families name) refusal.NameTaken
@@ -46,18 +49,22 @@ handle_fault families lane name = when (has_handle families lane name) refusal.A
 abbrev pub dropped_fault : List Family → ℕ → List ℕ → Option Refusal
 dropped_fault families lane name = when (list_any (λ f. is_own lane name f && f.dropped) families) refusal.Dropped
 
+abbrev pub limit_fault : List Family → Option Refusal
+limit_fault families = when (nat_le MAX_FAMILIES (length families)) refusal.TooManyFamilies
+
 -- ---- the calls
 
 abbrev pub create_fault : List Family → ℕ → List ℕ → Option Refusal
 create_fault families lane name =
-    first_due (taken_fault families name ∷ handle_fault families lane name ∷ when (nat_le 16 (length families)) refusal.TooManyFamilies ∷ [])
+    first_due (taken_fault families name ∷ handle_fault families lane name ∷ limit_fault families ∷ [])
 
 abbrev pub find_fault : List Family → ℕ → List ℕ → Option Refusal
 find_fault families lane name =
     when (not (has_handle families lane name)) (cond (stands families name) refusal.NotOpen refusal.NoFamily)
 
 abbrev pub open_fault : List Family → ℕ → List ℕ → Option Refusal
-open_fault families lane name = first_due (handle_fault families lane name ∷ when (not (stands families name)) refusal.NoFamily ∷ [])
+open_fault families lane name =
+    first_due (handle_fault families lane name ∷ when (not (stands families name)) refusal.NoFamily ∷ [])
 
 abbrev pub release_fault : List Family → ℕ → List ℕ → Option Refusal
 release_fault families lane name = first_due (default_fault name ∷ find_fault families lane name ∷ [])
@@ -66,7 +73,7 @@ abbrev pub change_fault : List Family → ℕ → List ℕ → Option Refusal
 change_fault families lane name = first_due (find_fault families lane name ∷ dropped_fault families lane name ∷ [])
 
 abbrev pub drop_fault : List Family → ℕ → List ℕ → Option Refusal
-drop_fault families lane name = first_due (default_fault name ∷ change_fault families lane name ∷ [])
+drop_fault families lane name = first_due (release_fault families lane name ∷ dropped_fault families lane name ∷ [])
 
 abbrev pub set_fault : List Family → ℕ → List ℕ → OptionName → ℕ → Option Refusal
 set_fault families lane name option value = first_due (option_fault option value ∷ change_fault families lane name ∷ [])

@@ -1,20 +1,18 @@
 // The families by id, with their handles.
-ghost use Rattle.std.specs.Prelude.{◌≡◌, ◌<◌, ◌∷◌, ◌++◌, [], Some, length, slice_get, true, false, IfOk, IfSome, IsSomeAnd, OnErr, is_some};
+ghost use Rattle.std.specs.Prelude.{◌≡◌, ◌<◌, ◌≤◌, ◌∷◌, ◌++◌, [], Some, length, slice_get, true, false, IfOk, IfSome, IsSomeAnd, OnErr, is_some};
 ghost use Rattle.std.specs.Option.{option_map};
 ghost use Rattle.sv_model.specs.declared.records.Family.{Family};
-ghost use Rattle.sv_model.specs.Families.{AreFamilies, IsOwn, IsOwnStanding, IsStanding, default_family, is_retired};
+ghost use Rattle.sv_model.specs.Families.{AreFamilies, IsOwn, IsOwnStanding, IsStanding, default_family, greatest_of, is_retired};
 ghost use Rattle.sv_model.specs.Refusals.{Refuses, RefusesExactly};
-ghost use Rattle.sv_family.specs.Calls.{IsChanged, IsCreated, as_dropped, new_family, with_handle, with_option};
+ghost use Rattle.sv_family.specs.Calls.{IsChanged, IsCreated, as_dropped, as_set, with_handle};
 ghost use Rattle.sv_family.specs.Refused.{change_fault, create_fault, drop_fault, find_fault, has_handle, open_fault, release_fault, set_fault, stands};
 
+use crate::making::{MAX_FAMILIES, default_family, new_family};
 use crate::ranges;
 use crate::sought::{MAX_LANES, is_default, is_retired, place_of_own, place_of_standing};
 use std::alloc::Global;
 use std::marker::Model;
 use sv_model::{Family, FamilyId, Name, OptionName, Options, OutOfMemory, Refusal};
-
-/// How many families are made at most, dropped ones included.
-pub const MAX_FAMILIES: usize = 16;
 
 /// The families ever made. Contracts see the list of their records, by id from 0.
 #[derive(Drop)]
@@ -34,39 +32,11 @@ impl Model for Families {
     ghost invariant = { λ f. AreFamilies f.families.items };
 }
 
-fn default_family(alloc: Global) -> Result<Family, OutOfMemory>
-    ensures { IfOk result (λ family. family ≡ default_family) }
-{
-    let Some(name) = Name::new(alloc, b"default")? else {
-        unreachable!();
-    };
-    Ok(Family {
-        name,
-        options: Options::FIRST,
-        dropped: false,
-        handles: [true; 32],
-    })
-}
-
-fn new_family(lane: u8, name: &Name) -> Result<Family, OutOfMemory>
-    requires { lane < MAX_LANES }
-    ensures { IfOk result (λ family. family ≡ new_family lane name.now) }
-{
-    let name = name.clone()?;
-    let mut handles = [false; 32];
-    handles[lane as usize] = true;
-    Ok(Family {
-        name,
-        options: Options::FIRST,
-        dropped: false,
-        handles,
-    })
-}
-
 impl Families {
     /// The family `default` alone, with a handle for each of the 32 lanes.
     pub fn new(alloc: Global) -> Result<Families, OutOfMemory>
-        ensures { IfOk result (λ families. families ≡ default_family ∷ []) }
+        ensures first { IfOk result (λ families. families ≡ default_family ∷ []) }
+        ensures lawful { IfOk result (λ families. AreFamilies families) }
     {
         let mut families = Vec::new(alloc);
         families.push(default_family(alloc)?)?;
@@ -113,9 +83,9 @@ impl Families {
         is_retired(&self.families[family.0 as usize])
     }
 
-    /// The refusal that `create` would answer: `NameTaken` where a family that is not dropped has the name,
-    /// then `AlreadyOpen` where the lane has a handle of the name, then `TooManyFamilies` where 16 were made.
-    /// The lane is below 32. Takes no memory.
+    /// The refusal that `create` would answer: `NameTaken` where a family that is not dropped has the name, then
+    /// `AlreadyOpen` where the lane, which is below 32, has a handle of the name, then `TooManyFamilies` where 16
+    /// were made. Takes no memory.
     pub fn create_refusal(&self, lane: u8, name: &Name) -> Option<Refusal>
         requires { lane < MAX_LANES }
         ensures { result ≡ create_fault self.now lane name.now }
@@ -139,6 +109,7 @@ impl Families {
         ensures made { IfOk result (λ id. IsCreated self.old lane name.now id self.new) }
         ensures refused { Refuses (create_fault self.old lane name.now) result }
         ensures kept { OnErr result (self.new ≡ self.old) }
+        ensures lawful { AreFamilies self.new }
     {
         if let Some(refusal) = self.create_refusal(lane, name) {
             return Err(refusal);
@@ -154,7 +125,8 @@ impl Families {
     /// Undoes the create just done: the family made last, which is not the first, was never made. Takes no memory.
     pub fn take_back(&mut self)
         requires { 1 < length self.old }
-        ensures { (last : Family) × (self.old ≡ self.new ++ last ∷ []) }
+        ensures undone { (last : Family) × (self.old ≡ self.new ++ last ∷ []) }
+        ensures lawful { AreFamilies self.new }
     {
         self.families.pop();
     }
@@ -198,6 +170,7 @@ impl Families {
         ensures changed { IfOk result (λ id. IsChanged (IsStanding name.now) (with_handle lane true) self.old id self.new) }
         ensures refused { RefusesExactly (open_fault self.old lane name.now) result }
         ensures kept { OnErr result (self.new ≡ self.old) }
+        ensures lawful { AreFamilies self.new }
     {
         if self.own(lane, name).is_some() {
             return Err(Refusal::AlreadyOpen);
@@ -218,11 +191,9 @@ impl Families {
         ensures other { IfOk result (λ id. 0 < id) }
         ensures refused { RefusesExactly (release_fault self.old lane name.now) result }
         ensures kept { OnErr result (self.new ≡ self.old) }
+        ensures lawful { AreFamilies self.new }
     {
-        if is_default(name) {
-            return Err(Refusal::IsDefault);
-        }
-        let id = self.find(lane, name)?;
+        let id = self.find_other(lane, name)?;
         let family = &mut self.families[id.0 as usize];
         family.handles[lane as usize] = false;
         Ok(id)
@@ -237,11 +208,12 @@ impl Families {
         ensures other { IfOk result (λ id. 0 < id) }
         ensures refused { RefusesExactly (drop_fault self.old lane name.now) result }
         ensures kept { OnErr result (self.new ≡ self.old) }
+        ensures lawful { AreFamilies self.new }
     {
-        if is_default(name) {
-            return Err(Refusal::IsDefault);
+        let id = self.find_other(lane, name)?;
+        if self.is_dropped(id) {
+            return Err(Refusal::Dropped);
         }
-        let id = self.find_undropped(lane, name)?;
         let family = &mut self.families[id.0 as usize];
         family.dropped = true;
         Ok(id)
@@ -258,6 +230,7 @@ impl Families {
     ) -> Result<FamilyId, Refusal>
         requires { lane < MAX_LANES }
         ensures found { IfOk result (λ id. IsSomeAnd (slice_get self.now id) (IsOwnStanding lane name.now)) }
+        ensures within { IfOk result (λ id. value ≤ greatest_of option) }
         ensures refused { RefusesExactly (set_fault self.now lane name.now option value) result }
     {
         if let Some(refusal) = ranges::refusal(option, value) {
@@ -276,14 +249,31 @@ impl Families {
         value: u64,
     ) -> Result<FamilyId, Refusal>
         requires { lane < MAX_LANES }
-        ensures changed { IfOk result (λ id. IsChanged (IsOwnStanding lane name.now) (with_option option value) self.old id self.new) }
+        ensures changed { IfOk result (λ id. IsChanged (IsOwnStanding lane name.now) (as_set option value) self.old id self.new) }
         ensures refused { RefusesExactly (set_fault self.old lane name.now option value) result }
         ensures kept { OnErr result (self.new ≡ self.old) }
+        ensures lawful { AreFamilies self.new }
     {
         let id = self.check_option(lane, name, option, value)?;
         let family = &mut self.families[id.0 as usize];
-        ranges::set(&mut family.options, option, value);
+        family.options = ranges::with_option(family.options, option, value);
         Ok(id)
+    }
+
+    // The same as `find`, but `default` is refused first.
+    fn find_other(&self, lane: u8, name: &Name) -> Result<FamilyId, Refusal>
+        requires { lane < MAX_LANES }
+        ensures found { IfOk result (λ id. IsSomeAnd (slice_get self.now id) (IsOwn lane name.now)) }
+        ensures other { IfOk result (λ id. 0 < id) }
+        ensures refused { RefusesExactly (release_fault self.now lane name.now) result }
+        ensures lawful { AreFamilies self.now }
+    {
+        // Read first, so that the laws of the families are known in each answer.
+        let _ = &self.families;
+        if is_default(name) {
+            return Err(Refusal::IsDefault);
+        }
+        self.find(lane, name)
     }
 
     // The family of the lane's handle of the name.

@@ -2,9 +2,11 @@
 #![tactic(auto)]
 
 mod families;
+mod making;
 mod ranges;
 mod sought;
 
-pub use families::{Families, MAX_FAMILIES};
-pub use ranges::{MAX_IMMUTABLE, MAX_MEMTABLE_ROWS};
+pub use families::Families;
+pub use making::MAX_FAMILIES;
+pub use ranges::{MAX_IMMUTABLE, MAX_MEMTABLE_ROWS, with_option};
 pub use sought::MAX_LANES;

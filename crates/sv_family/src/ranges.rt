@@ -1,7 +1,7 @@
 // The ranges of the options.
 ghost use Rattle.std.specs.Prelude.{◌≡◌, ◌≤◌};
 ghost use Rattle.sv_model.specs.Families.{greatest_of};
-ghost use Rattle.sv_family.specs.Calls.{option_set};
+ghost use Rattle.sv_family.specs.Calls.{with_option};
 ghost use Rattle.sv_family.specs.Refused.{option_fault};
 
 use sv_model::{OptionName, Options, Refusal};
@@ -36,13 +36,19 @@ pub(crate) fn refusal(option: OptionName, value: u64) -> Option<Refusal>
     })
 }
 
-// Sets the option to a value that is in its range.
-pub(crate) fn set(options: &mut Options, option: OptionName, value: u64)
+/// The options with this one set to a value that is in its range.
+pub fn with_option(options: Options, option: OptionName, value: u64) -> Options
     requires { value ≤ greatest_of option }
-    ensures { options.new ≡ option_set option value options.old }
+    ensures { result ≡ with_option option value options }
 {
     match option {
-        OptionName::MemtableRows => options.memtable_rows = value as u32,
-        OptionName::MaxImmutable => options.max_immutable = value as u8,
+        OptionName::MemtableRows => Options {
+            memtable_rows: value as u32,
+            ..options
+        },
+        OptionName::MaxImmutable => Options {
+            max_immutable: value as u8,
+            ..options
+        },
     }
 }

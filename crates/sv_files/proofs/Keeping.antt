@@ -1,10 +1,14 @@
 -- What is kept beside the numbers, after a push, the end of the last one, and a new status.
 use Rattle.std.proofs.Common.{◌≡◌, ◌≢◌, ℕ, zero, suc, ◌+◌, ◌<◌, ◌≤◌, ◌⊎◌, inl, inr, ⊎_elim, ◌↔◌, Bool, true, false, cond, List, [], ◌∷◌, ◌++◌, length, get_or, Option, Some, None, IsSome, IsTrue, is_some, slice_get, set, arith, refl, sym, ap, subst, ◌∙◌, length-set, length-append}
+use Rattle.std.specs.Prelude.{if◌then◌else◌}
 use Rattle.std.specs.List.Sorted.{IsStrictlyIncreasing}
 use Rattle.std.specs.Ordering.{nat_cmp, is_eq}
 use Rattle.std.specs.BTreeMap.{BTreeMap, get, UpdatesBy}
 use Rattle.std.proofs.lemmas.Bool.Decides.{nat_tests}
 use Rattle.std.proofs.lemmas.Option.{get_or_from_slice_get, slice_get_within}
+use Rattle.std.specs.VecDeque.{deque_len}
+use Rattle.std.specs.declared.collections.VecDeque.{VecDeque}
+use Rattle.std.specs.declared.alloc.Global.{Global}
 use Rattle.sv_model.specs.declared.records.RegisteredFile.{RegisteredFile}
 use Rattle.sv_model.specs.declared.records.FileStatus.{FileStatus}
 use Rattle.sv_model.specs.declared.records.FileStatus.TheVariants.{Obsolete}
@@ -40,6 +44,13 @@ is_registered places l n h = (
         let x = h.found n p is in
         let r = registered-at l p x.0 x.1 in omega (arith, ap (λ k. registered k l) x.2)
     by-case None is some = absurd (cc)
+
+-- what the code reads at the place of a number
+pub read-is : (places : BTreeMap ℕ ℕ) (l : List RegisteredFile) (n p : ℕ) (x : RegisteredFile) → KeepsPositions places l → get nat_cmp places n ≡ Some p → x ≡ get_or l p x → (slice_get l p ≡ Some x) × (x.number ≡ n)
+read-is places l n p x h at read =
+    let y = h.found n p at in
+    let is : x ≡ y.0 = read ∙ get_or_from_slice_get l p y.0 x y.1 in
+    (y.1 ∙ ap Some (sym is), ap (λ (z : RegisteredFile). z.number) is ∙ y.2)
 
 -- ---- a number is registered last
 module _ (l : List RegisteredFile) (places left : BTreeMap ℕ ℕ) (y : RegisteredFile) where
@@ -107,11 +118,29 @@ pub record IsSet (number : ℕ) (was now : Bool) (old new : List ℕ) : Type 0 w
   pub others : (n : ℕ) → n ≢ number → (In n new ↔ In n old)
   pub long : length new + cond was 1 0 ≡ length old + cond now 1 0
 
+-- what a call says of the queue
+pub is-set : (number : ℕ) (was now was_is now_is : Bool) (old new : VecDeque ℕ Global) → was ≡ was_is → now ≡ now_is → IsStrictlyIncreasing new.items → IsTrue now ↔ In number new.items
+    → ((n : ℕ) → n ≢ number → (In n new.items ↔ In n old.items)) → deque_len new + cond was 1 0 ≡ deque_len old + cond now 1 0 → IsSet number was_is now_is old.items new.items
+is-set number was now was_is now_is old new was_same now_same rising here others long =
+    subst (λ (b : Bool). IsSet number was_is b old.items new.items) now_same
+    (subst (λ (b : Bool). IsSet number b now old.items new.items) was_same
+    (record { rising = rising; now_is = here; others = others; long = omega (arith, long, old.ok.0, new.ok.0) }))
+
 pub was-in : (l : List RegisteredFile) (q : List ℕ) (i : ℕ) (x : RegisteredFile) → ((n : ℕ) → registered n l ≤ 1) → AreInOrder (λ n. IsRegistered l n Obsolete) q → entry l i ≡ Some x → IsTrue (is_obsolete x.status) ↔ In x.number q
 was-in l q i x once h at = (
   λ is. (h.exact x.number).1 (i, x, at, record { number_is = refl; status_is = (obsolete-is x.status).0 is }),
   λ there. (obsolete-is x.status).1 (status-is l x.number i x Obsolete (once x.number) at refl ((h.exact x.number).0 there)),
 )
+
+-- there is room for a number whose status changes
+pub room-mark : (l : List RegisteredFile) (places : BTreeMap ℕ ℕ) (q : List ℕ) (long room : ℕ) → AreKept l places q room → (p : ℕ) (x : RegisteredFile) (now : FileStatus) (was_bit now_bit : Bool)
+    → slice_get l p ≡ Some x → long ≡ length q → was_bit ≡ is_obsolete x.status → now_bit ≡ is_obsolete now → long + (if now_bit then 1 else 0) ≤ room + (if was_bit then 1 else 0)
+room-mark l places q long room h p x now was_bit now_bit at long_is was_is now_is =
+    let y = with_status x now in
+    let e = total-set (λ (z : RegisteredFile). if is_obsolete z.status then 1 else 0) l p x y at in
+    let le = count-le (set l p y) in
+    let same = length-set l p y in
+    omega (arith, h.counted, h.enough, ap {B = ℕ} (λ (b : Bool). if b then 1 else 0) was_is, ap {B = ℕ} (λ (b : Bool). if b then 1 else 0) now_is)
 
 -- ---- all of it
 module _ (l : List RegisteredFile) (places : BTreeMap ℕ ℕ) (q new : List ℕ) (room more : ℕ) (h : AreKept l places q room) where

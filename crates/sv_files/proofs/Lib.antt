@@ -1,4 +1,11 @@
 mod Answered
+mod BookLaws
+mod Choosing
+mod GrabLaws
 mod Keeping
+mod NamedLaws
+mod NumbersLaws
 mod Registered
 mod Rising
+mod ScanLaws
+mod StrayLaws

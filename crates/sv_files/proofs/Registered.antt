@@ -1,5 +1,6 @@
 -- Numbers that are registered once: where they stand, and what a push and a new status leave.
 use Rattle.std.proofs.Common.{◌≡◌, ◌≢◌, ℕ, zero, suc, ◌+◌, ◌<◌, ◌≤◌, ◌⊎◌, inl, inr, ⊎_elim, ◌↔◌, Bool, true, false, cond, List, [], ◌∷◌, ◌++◌, length, Option, Some, None, is_some, slice_get, set, arith, refl, sym, ap, subst, ◌∙◌, length-set}
+use Rattle.std.specs.Prelude.{if◌then◌else◌}
 use Rattle.sv_model.specs.declared.records.RegisteredFile.{RegisteredFile}
 use Rattle.sv_model.specs.declared.records.FileStatus.{FileStatus}
 use Rattle.sv_model.specs.declared.records.FileStatus.TheVariants.{Pending, Live, Obsolete, Grabbed, Gone}
@@ -76,13 +77,13 @@ obsolete-is Live = (λ e. absurd (cc), λ e. absurd (cc))
 obsolete-is Grabbed = (λ e. absurd (cc), λ e. absurd (cc))
 obsolete-is Gone = (λ e. absurd (cc), λ e. absurd (cc))
 
+pub bit-le : (b : Bool) → (if b then 1 else 0) ≤ 1
+bit-le true = omega arith
+bit-le false = omega arith
+
 pub count-le : (l : List RegisteredFile) → count_obsolete l ≤ length l
 count-le [] = omega arith
 count-le (x ∷ l) = let h = count-le l in let b = bit-le (is_obsolete x.status) in omega arith
-  where
-    bit-le : (b : Bool) → cond b 1 0 ≤ 1
-    bit-le true = omega arith
-    bit-le false = omega arith
 
 -- ---- one number more
 pub registered_push : (l : List RegisteredFile) (y : RegisteredFile) (n : ℕ) → registered n (l ++ y ∷ []) ≡ registered n l + same n y.number

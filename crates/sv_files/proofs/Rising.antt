@@ -190,3 +190,7 @@ pub take_rising : (xs : List ℕ) (c : ℕ) → IsStrictlyIncreasing xs → IsSt
 take_rising xs c h k within =
     let l = length_take xs c in
     omega (arith, h k (omega (arith, l.1)), get_or-take xs c k (omega (arith, l.0)), get_or-take xs c (k + 1) (omega (arith, l.0)))
+
+-- the first of some
+pub first-in : (xs : List ℕ) (c : ℕ) → 0 < c → c ≤ length xs → (n : ℕ) × In n (take c xs)
+first-in xs c some within = (get_or xs 0 0, in-take xs c (get_or xs 0 0) 0 some (omega arith) refl)

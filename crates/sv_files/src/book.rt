@@ -14,7 +14,7 @@ use crate::numbers::Numbers;
 use crate::settled::{Settled, status_of};
 use std::alloc::Global;
 use std::marker::Model;
-use sv_model::{FamilyId, FileNumber, FileStatus, OutOfMemory, Refusal, RegisteredFile};
+use sv_model::{FamilyId, FileNumber, FileStatus, OutOfMemory, Refusal};
 
 /// How many numbers are captured at most.
 pub const MAX_CAPTURED: usize = 1_048_576;
@@ -72,7 +72,7 @@ impl FileBook {
         requires { 1 ≤ next }
         ensures { result ≡ opened next [] }
     {
-        with_numbers(Numbers::new(alloc), 0, next)
+        with_numbers(Numbers::new(alloc), 0, raw(&next))
     }
 
     /// Exactly these numbers registered, each Live and as if its family had captured it.
@@ -87,9 +87,9 @@ impl FileBook {
     {
         let mut numbers = Numbers::new(alloc);
         for (family, number) in files {
-            numbers.push(live(family, number))?;
+            numbers.push(number.0, FileStatus::Live, Some(*family))?;
         }
-        Ok(with_numbers(numbers, files.len(), next))
+        Ok(with_numbers(numbers, files.len(), raw(&next)))
     }
 
     /// What always holds of the register. Does nothing and takes no memory.
@@ -113,14 +113,13 @@ impl FileBook {
         if self.made >= MAX_CAPTURED || self.next == u64::MAX {
             return Err(Refusal::RegisterFull);
         }
-        let number = FileNumber(self.next);
-        if self.numbers.push(pending(&family, &number)).is_err() {
-            return Err(Refusal::OutOfMemory);
-        }
-        self.captured[family.0 as usize] = Some(number);
+        let number = self.next;
+        self.numbers
+            .push(number, FileStatus::Pending, Some(family))?;
+        self.captured[family.0 as usize] = Some(FileNumber(number));
         self.made += 1;
-        self.next += 1;
-        Ok(number)
+        self.next = number + 1;
+        Ok(FileNumber(number))
     }
 
     /// Ends the capture of a Pending number: it is Live or Obsolete, and its family has no captured
@@ -175,7 +174,7 @@ impl FileBook {
 }
 
 // A book of these numbers, of which so many were captured.
-fn with_numbers(numbers: Numbers, made: usize, next: FileNumber) -> FileBook
+fn with_numbers(numbers: Numbers, made: usize, next: u64) -> FileBook
     requires stand { FilesStand (opened next numbers) }
     requires made { made ≡ captures numbers }
     ensures { result ≡ opened next numbers }
@@ -186,28 +185,14 @@ fn with_numbers(numbers: Numbers, made: usize, next: FileNumber) -> FileBook
         holds: [0; LANES],
         jobs: 0,
         made,
-        next: next.0,
+        next,
     }
 }
 
-fn pending(family: &FamilyId, number: &FileNumber) -> RegisteredFile
-    ensures { result ≡ record { number = number.now; status = status.Pending; family = Some family.now } }
+fn raw(number: &FileNumber) -> u64
+    ensures { result ≡ number.now }
 {
-    RegisteredFile {
-        number: *number,
-        status: FileStatus::Pending,
-        family: Some(*family),
-    }
-}
-
-fn live(family: &FamilyId, number: &FileNumber) -> RegisteredFile
-    ensures { result ≡ live_file (family.now, number.now) }
-{
-    RegisteredFile {
-        number: *number,
-        status: FileStatus::Live,
-        family: Some(*family),
-    }
+    number.0
 }
 
 fn least(captured: &[Option<FileNumber>]) -> u64

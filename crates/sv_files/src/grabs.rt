@@ -1,18 +1,17 @@
 // What a job grabs: Obsolete numbers, and the strays of a listing.
-ghost use Rattle.std.specs.Prelude.{◌≡◌, ◌≤◌, ◌++◌, ℕ, List, IfOk, OnErr, OnOk, map, length, take, min};
-ghost use Rattle.sv_model.specs.declared.records.FileStatus.TheVariants.{Obsolete};
-ghost use Rattle.sv_model.specs.Lists.{Distinct, In};
-ghost use Rattle.sv_model.specs.Numbers.{AreInOrder, IsRegistered};
+ghost use Rattle.std.specs.Prelude.{◌≡◌, ◌<◌, ◌≤◌, ◌++◌, ℕ, List, IfOk, OnErr, OnOk, map, length, take, min};
+ghost use Rattle.sv_model.specs.declared.records.RegisteredFile.{RegisteredFile};
+ghost use Rattle.sv_model.specs.Lists.{In};
+ghost use Rattle.sv_model.specs.Numbers.{registered};
 ghost use Rattle.sv_files.specs.Calls.{grab};
 ghost use Rattle.sv_files.specs.Kept.{AddsStrays, FindsStrays};
 
 use crate::numbers::Numbers;
-use sv_model::{FileNumber, FileStatus, OutOfMemory, RegisteredFile};
+use sv_model::{FileNumber, FileStatus, OutOfMemory};
 
-// Makes each of these Obsolete numbers Grabbed.
+// Makes each of these numbers Grabbed.
 pub(crate) fn grab_all(numbers: &mut Numbers, found: &[FileNumber])
-    requires apart { Distinct found.now }
-    requires obsolete { (n : ℕ) → In n found.now → IsRegistered numbers.old n Obsolete }
+    requires { (n : ℕ) → In n found.now → 0 < registered n numbers.old }
     ensures { numbers.new ≡ map (grab found.now) numbers.old }
 {
     for number in found {
@@ -50,7 +49,7 @@ fn add_strays(numbers: &mut Numbers, listed: &[FileNumber], limit: u64) -> Resul
 {
     for number in listed {
         if number.0 < limit && !numbers.is_registered(number.0) {
-            numbers.push(stray(number))?;
+            numbers.push(number.0, FileStatus::Obsolete, None)?;
         }
     }
     Ok(())
@@ -63,15 +62,5 @@ fn cut_back(numbers: &mut Numbers, stay: usize)
 {
     while numbers.as_slice().len() > stay {
         numbers.take_back();
-    }
-}
-
-fn stray(number: &FileNumber) -> RegisteredFile
-    ensures { result ≡ record { number = number.now; status = Obsolete; family = None } }
-{
-    RegisteredFile {
-        number: *number,
-        status: FileStatus::Obsolete,
-        family: None,
     }
 }

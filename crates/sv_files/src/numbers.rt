@@ -13,7 +13,7 @@ use crate::queue;
 use std::alloc::Global;
 use std::collections::{BTreeMap, VecDeque};
 use std::marker::Model;
-use sv_model::{FileNumber, FileStatus, OutOfMemory, RegisteredFile};
+use sv_model::{FamilyId, FileNumber, FileStatus, OutOfMemory, RegisteredFile};
 
 /// Every file number ever registered, in that order. Contracts see the list.
 #[derive(Drop)]
@@ -82,13 +82,17 @@ impl Numbers {
     }
 
     /// Registers one number more, which is new.
-    pub(crate) fn push(&mut self, file: RegisteredFile) -> Result<(), OutOfMemory>
-        requires { registered file.number self.old ≡ 0 }
-        ensures ok { OnOk result (self.new ≡ self.old ++ file ∷ []) }
+    pub(crate) fn push(
+        &mut self,
+        number: u64,
+        status: FileStatus,
+        family: Option<FamilyId>,
+    ) -> Result<(), OutOfMemory>
+        requires { registered number self.old ≡ 0 }
+        ensures ok { OnOk result
+            (self.new ≡ self.old ++ record { number = number; status = status; family = family } ∷ []) }
         ensures err { OnErr result (self.new ≡ self.old) }
     {
-        let number = file.number.0;
-        let ready = is_obsolete(file.status);
         let at = self.files.len();
         let waiting = self.obsolete.len();
         self.files.reserve(1)?;
@@ -96,8 +100,12 @@ impl Numbers {
         if self.places.insert(number, at).is_err() {
             return Err(OutOfMemory);
         }
-        self.files.push_reserved(file);
-        queue::set(&mut self.obsolete, number, false, ready);
+        self.files.push_reserved(RegisteredFile {
+            number: FileNumber(number),
+            status,
+            family,
+        });
+        queue::set(&mut self.obsolete, number, false, is_obsolete(status));
         Ok(())
     }
 
@@ -107,19 +115,21 @@ impl Numbers {
         ensures { (last : RegisteredFile) × (self.old ≡ self.new ++ last ∷ []) }
     {
         let last = self.files.take_last();
-        let number = last.number.0;
+        let (number, waited) = (number_of(&last), is_obsolete(last.status));
         let _ = self.places.remove(&number);
-        queue::set(&mut self.obsolete, number, is_obsolete(last.status), false);
+        queue::set(&mut self.obsolete, number, waited, false);
     }
 
     /// Gives a registered number another status. Answers what it was. Takes no memory.
     pub(crate) fn mark(&mut self, number: u64, now: FileStatus) -> RegisteredFile
         requires { 0 < registered number self.old }
+        ensures once { registered number self.old ≤ 1 }
         ensures marked { (m : IsMarked number result.status now self.old self.new) × (m.it ≡ result) }
     {
         let at = position(&self.places, number);
         let was = self.files[at];
-        self.files[at].status = now;
+        let file = &mut self.files[at];
+        file.status = now;
         queue::set(
             &mut self.obsolete,
             number,
@@ -134,6 +144,12 @@ fn is_obsolete(status: FileStatus) -> bool
     ensures { result ≡ is_obsolete status }
 {
     matches!(status, FileStatus::Obsolete)
+}
+
+fn number_of(file: &RegisteredFile) -> u64
+    ensures { result ≡ file.now.number }
+{
+    file.number.0
 }
 
 fn position(places: &BTreeMap<u64, usize>, number: u64) -> usize

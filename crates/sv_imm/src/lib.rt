@@ -1,8 +1,9 @@
 //! Lists of immutable memtables: how one follows from another, and which memtables a list lets go.
 #![tactic(auto)]
 
-mod appends;
 mod imm_lists;
+mod kept_list;
 mod members;
 
-pub use imm_lists::ImmLists;
+pub use imm_lists::{ImmLists, MAX_LISTS};
+pub use members::MAX_MEMBERS;

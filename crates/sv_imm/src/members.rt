@@ -1,45 +1,31 @@
-// The counts of a list's members go up with the list, and down with it.
-ghost use Rattle.std.specs.Prelude.{◌≡◌, ℕ, ◌+◌, ◌<◌, ◌≤◌, ◌^◌, length, OnOk, OnErr};
-ghost use Rattle.sv_model.specs.Counts.{count_of};
-ghost use Rattle.sv_model.specs.Lists.{times, IsChosen};
+// The members of the list that follows another.
+ghost use Rattle.std.specs.Prelude.{◌≡◌, ℕ, ◌+◌, ◌<◌, ◌≤◌, ◌++◌, ◌∷◌, [], length, drop, false, refl, IfOk};
 
-use arrayvec::ArrayVec;
-use sv_model::{Counts, MemId, OutOfMemory};
+use std::alloc::Global;
+use sv_model::{MemId, OutOfMemory};
 
-// All members count once more, or, for want of memory, none.
-pub fn raise(counts: &mut Counts, members: &[MemId]) -> Result<(), OutOfMemory>
-    requires room { (m : ℕ) → count_of counts.old m + length members.now < 2 ^ 64 }
-    requires short { length members.now ≤ 64 }
-    ensures ok { OnOk result ((m : ℕ) → count_of counts.new m ≡ count_of counts.old m + times m members.now) }
-    ensures err { OnErr result ((m : ℕ) → count_of counts.new m ≡ count_of counts.old m) }
+/// The greatest number of members of a list.
+pub const MAX_MEMBERS: usize = 64;
+
+// The members and one more, in no more memory than they need.
+pub fn with_last(alloc: Global, members: &[MemId], mem: MemId) -> Result<Vec<MemId>, OutOfMemory>
+    requires { length members.now < MAX_MEMBERS }
+    ensures { IfOk result (λ v. v.items ≡ members.now ++ mem ∷ []) }
 {
-    for (i, mem) in members.iter().enumerate() {
-        match counts.up(u64::from(mem.0)) {
-            Ok(()) => {}
-            Err(refused) => {
-                lower(counts, &members[..i]);
-                return Err(refused);
-            }
-        }
-    }
-    Ok(())
+    let mut more = Vec::with_capacity(alloc, members.len() + 1)?;
+    more.extend_from_slice(members)?;
+    more.push(mem)?;
+    Ok(more)
 }
 
-// All members count once less. Answers those that nothing names any more.
-pub fn lower(counts: &mut Counts, members: &[MemId]) -> ArrayVec<MemId, 64>
-    requires counted { (m : ℕ) → times m members.now ≤ count_of counts.old m }
-    requires short { length members.now ≤ 64 }
-    ensures counts { (m : ℕ) → count_of counts.old m ≡ count_of counts.new m + times m members.now }
-    ensures given { IsChosen (λ m. count_of counts.new m ≡ 0) members.now result.items }
+// The members without the oldest ones.
+pub fn without_oldest(
+    alloc: Global,
+    members: &[MemId],
+    count: u8,
+) -> Result<Vec<MemId>, OutOfMemory>
+    ensures { IfOk result (λ v. v.items ≡ drop count members.now) }
 {
-    let mut given = ArrayVec::new();
-    for mem in members {
-        let number = u64::from(mem.0);
-        counts.down(number);
-        let held = counts.count(number);
-        if held == 0 {
-            given.push(*mem);
-        }
-    }
-    given
+    let flushed = usize::from(count).min(members.len());
+    Ok(Vec::from_slice(alloc, &members[flushed..])?)
 }

@@ -1,33 +1,48 @@
 // How a Version follows another, and which files a Version lets go.
 ghost use Rattle.std.specs.Prelude.{◌≡◌, IfOk};
-ghost use Rattle.sv_imm_tests.specs.Made.{three_versions};
+ghost use Rattle.sv_imm_tests.specs.Made.{older_file, newer_file, merged_file, three_versions};
 
 use std::alloc::Global;
 use std::rt::HostRuntime;
 use std::test::Fail;
-use sv_model::{FileMeta, FileNumber, OutOfMemory, VersionId};
+use sv_model::{Bottom, Cuts, FileMeta, FileNumber, OutOfMemory, VersionId};
 use sv_version::Versions;
 
-const OLDER: FileMeta = FileMeta {
-    number: FileNumber(1),
-    from: 0,
-    to: 10,
-    bottom: false,
-};
+fn older() -> FileMeta
+    ensures { result ≡ older_file }
+{
+    FileMeta {
+        number: FileNumber(1),
+        from: 0,
+        to: 10,
+        bottom: Bottom::plain(),
+    }
+}
 
-const NEWER: FileMeta = FileMeta {
-    number: FileNumber(2),
-    from: 10,
-    to: 20,
-    bottom: false,
-};
+fn newer() -> FileMeta
+    ensures { result ≡ newer_file }
+{
+    FileMeta {
+        number: FileNumber(2),
+        from: 10,
+        to: 20,
+        bottom: Bottom::plain(),
+    }
+}
 
-const MERGED: FileMeta = FileMeta {
-    number: FileNumber(3),
-    from: 0,
-    to: 20,
-    bottom: true,
-};
+fn merged() -> FileMeta
+    ensures { result ≡ merged_file }
+{
+    FileMeta {
+        number: FileNumber(3),
+        from: 0,
+        to: 20,
+        bottom: Bottom {
+            last: true,
+            cuts: Cuts::none(),
+        },
+    }
+}
 
 // A Version without files, one with the older file, and one with both.
 fn three(alloc: Global) -> Result<Versions, OutOfMemory>
@@ -35,8 +50,8 @@ fn three(alloc: Global) -> Result<Versions, OutOfMemory>
 {
     let mut versions = Versions::new(alloc);
     let _empty = versions.first()?;
-    let _one = versions.add_file(VersionId(1), OLDER)?;
-    let _two = versions.add_file(VersionId(2), NEWER)?;
+    let _one = versions.add_file(VersionId(1), older())?;
+    let _two = versions.add_file(VersionId(2), newer())?;
     Ok(versions)
 }
 
@@ -44,7 +59,7 @@ fn three(alloc: Global) -> Result<Versions, OutOfMemory>
 fn replaced(alloc: Global) -> Result<(Vec<FileMeta>, Vec<FileMeta>), OutOfMemory> {
     let mut versions = three(alloc)?;
     let all = Vec::from_slice(alloc, versions.files(VersionId(3)))?;
-    let merged = versions.replace_all(VersionId(3), MERGED)?;
+    let merged = versions.replace_all(VersionId(3), merged())?;
     let left = Vec::from_slice(alloc, versions.files(merged))?;
     Ok((all, left))
 }
@@ -67,8 +82,8 @@ fn let_go(alloc: Global) -> Result<(Vec<FileNumber>, Vec<FileNumber>), OutOfMemo
 #[test]
 fn versions(rt: HostRuntime) -> Result<(), Fail> {
     let (all, left) = replaced(rt.alloc())?;
-    assert_eq!(rt; all.as_slice(), [OLDER, NEWER].as_slice());
-    assert_eq!(rt; left.as_slice(), [MERGED].as_slice());
+    assert_eq!(rt; all.as_slice(), [older(), newer()].as_slice());
+    assert_eq!(rt; left.as_slice(), [merged()].as_slice());
     assert_eq!(rt;
         taken_back(rt.alloc())?.as_slice(),
         [FileNumber(1)].as_slice()

@@ -1,41 +1,25 @@
 -- A compaction ends.
-use Rattle.std.proofs.Common.{◌≡◌, ◌<◌, ◌≤◌, ℕ, suc, ◌+◌, inl, inr, ⊎_elim, true, false, List, [], ◌∷◌, ◌++◌, length, Option, Some, None, refl, sym, ap, ◌∙◌, subst, arith, set, length-append}
-use Rattle.std.specs.Prelude.{slice_get}
-use Rattle.sv_model.specs.declared.writes.Write.{Write}
+use Rattle.std.proofs.Common.{◌≡◌, ℕ, ◌+◌, inl, inr, ⊎_elim, true, [], ◌∷◌, ◌++◌, length, refl, sym, ap, ◌∙◌, subst, arith, set}
 use Rattle.sv_model.specs.declared.records.SuperVersion.{SuperVersion}
-use Rattle.sv_model.specs.declared.records.Memtable.{Memtable}
-use Rattle.sv_model.specs.declared.records.MemtableList.{MemtableList}
 use Rattle.sv_model.specs.declared.records.Version.{Version}
 use Rattle.sv_model.specs.declared.records.FileMeta.{FileMeta}
-use Rattle.sv_model.specs.declared.records.FileStatus.TheVariants.{Pending, Live, Gone}
-use Rattle.sv_model.specs.declared.records.Family.{Family}
-use Rattle.sv_model.specs.declared.records.Top.{Top}
-use Rattle.sv_model.specs.Journal.{borne_by, of_family}
-use Rattle.sv_model.specs.Lists.{In, Every}
-use Rattle.sv_model.specs.Named.{numbers_of}
+use Rattle.sv_model.specs.declared.records.FileStatus.TheVariants.{Live}
 use Rattle.sv_model.specs.Ranges.{reach_of}
-use Rattle.sv_model.specs.Registers.{entry, GoesOn}
 use Rattle.sv_model.specs.Books.{Books}
-use Rattle.sv_model.specs.After.{KeepsNumber, After}
+use Rattle.sv_model.specs.After.{After}
 use Rattle.sv_model.specs.Numbers.{IsRegistered}
-use Rattle.sv_model.specs.Described.{MembersJoin, FilesStand, IsFileOf}
-use Rattle.sv_model.specs.Steady.{Sound, IsFlush, IsMerge, IsAwaited}
-use Rattle.sv_model.proofs.Registers.{entry-new, entry-same, entry_push}
-use Rattle.sv_laws.specs.Installs.{IsFlushed, IsCompacted, IsCreated, IsParted}
-use Rattle.sv_laws.specs.Currents.{Installs, next_top, live_super, IsOpen}
-use Rattle.sv_laws.specs.Settling.{IsSettled}
-use Rattle.sv_laws.proofs.Items.{some, every_push, every_none, get_one, in-cons, in-none, in-right, none_some}
-use Rattle.sv_laws.proofs.Growing.{get_within, placed-set, placed-same, placed-push}
-use Rattle.sv_laws.proofs.Settled.{marked-goes, marked-keeps, marked-here, settled-captured}
-use Rattle.sv_laws.proofs.Metas.{captured-goes}
-use Rattle.sv_laws.proofs.StillFits.{join-le, file-on, files-join-push, join_reach, files-at}
+use Rattle.sv_model.specs.Described.{IsFileOf}
+use Rattle.sv_model.specs.Steady.{Sound}
+use Rattle.sv_model.proofs.Registers.{entry-new}
+use Rattle.sv_laws.specs.NewCurrents.{IsCompacted}
+use Rattle.sv_laws.specs.Installs.{next_top, live_super}
+use Rattle.sv_laws.proofs.Items.{get_one, in-cons, in-none}
+use Rattle.sv_laws.proofs.Growing.{placed-set, placed-same}
+use Rattle.sv_laws.proofs.StillFits.{join_reach, files-at}
 use Rattle.sv_laws.proofs.Installed.{installed}
-use Rattle.sv_laws.proofs.BorneRows.{unborne, unowned}
-use Rattle.sv_laws.proofs.OpenFamilies.{numbers_push, numbers-push, of_f, options_are, ends-at, says, active-lives, list-lives, version-lives, member, was, had, in-range, name-free, last-files, paired-set}
-use Rattle.sv_laws.proofs.OpenFamilies.{last_is, has-handles}
-use Rattle.sv_laws.proofs.Metas.{one-meta}
-use Rattle.sv_model.specs.Snapshots.{IsLastFile, IsAwaitedFile}
-use Rattle.sv_laws.proofs.Outputs.{is-some, is-flush, is-merge, gn, now-live, stay-live, still, none-captured, file-of, says-files, last-output, was-awaited}
+use Rattle.sv_laws.proofs.OpenFamilies.{of_f, options_are, ends-at, says, active-lives, list-lives, was, had, in-range, name-free, last-files, paired-set}
+use Rattle.sv_laws.proofs.OpenFamilies.{has-handles}
+use Rattle.sv_laws.proofs.Outputs.{is-merge, now-live, none-captured, file-of, last-output, was-awaited}
 
 module _ (a b : Books) (k : Sound a) (f : ℕ) (file : FileMeta) where
   pub compacted : IsCompacted a b f file → Sound b × After a b
@@ -73,7 +57,13 @@ module _ (a b : Books) (k : Sound a) (f : ℕ) (file : FileMeta) where
                 (in-cons n file.number [] i);
           },
         );
-        files = inr (record { number = file.number; settled = h.settled; it = v; at = entry-new a.versions v (length a.versions + 1) refl; has = record { at = 0; is = refl } });
+        files = inr (record {
+          number = file.number;
+          settled = h.settled;
+          it = v;
+          at = entry-new a.versions v (length a.versions + 1) refl;
+          has = record { at = 0; is = refl };
+        });
         active_live = active-lives a k f h.s c p;
         list_lives = list-lives a k f h.s c p;
         version_lives = record { it = v; at = entry-new a.versions v (length a.versions + 1) refl; live = refl };
@@ -90,7 +80,9 @@ module _ (a b : Books) (k : Sound a) (f : ℕ) (file : FileMeta) where
           middle = d.middle;
           files = record {
             joins = (merge.from_is, ends);
-            each = λ i m q. subst (IsFileOf b.files.numbers a.metas c.descriptor.family) (sym (get_one file i m q).1) (file-of a b k f h.s c p file h.covered h.settled);
+            each = λ i m q.
+                subst (IsFileOf b.files.numbers a.metas c.descriptor.family) (sym (get_one file i m q).1)
+                (file-of a b k f h.s c p file h.covered h.settled);
             above = λ i m q low. absurd (omega (arith, (get_one file i m q).0));
           };
           members = d.members;
@@ -116,6 +108,7 @@ module _ (a b : Books) (k : Sound a) (f : ℕ) (file : FileMeta) where
           arith,
           ap reach_of (last-files a k f h.s c p t q d.version d.version_at),
           merge.to_is,
-          ap reach_of (files-at (a.versions ++ v ∷ []) (length a.versions + 1) v (entry-new a.versions v (length a.versions + 1) refl)),
+          ap reach_of
+              (files-at (a.versions ++ v ∷ []) (length a.versions + 1) v (entry-new a.versions v (length a.versions + 1) refl)),
         );
       }))

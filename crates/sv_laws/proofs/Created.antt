@@ -1,50 +1,49 @@
 -- A family is made.
-use Rattle.std.proofs.Common.{◌≡◌, ◌<◌, ◌≤◌, ℕ, suc, ◌+◌, inl, inr, ⊎_elim, true, false, List, [], ◌∷◌, ◌++◌, length, Option, Some, None, refl, sym, ap, ◌∙◌, subst, arith, set, length-append}
+use Rattle.std.proofs.Common.{◌≡◌, ◌+◌, inl, inr, true, List, [], ◌∷◌, ◌++◌, length, Some, refl, sym, ap, ◌∙◌, subst, arith, length-append}
 use Rattle.std.specs.Prelude.{slice_get}
 use Rattle.sv_model.specs.declared.writes.Write.{Write}
 use Rattle.sv_model.specs.declared.records.SuperVersion.{SuperVersion}
 use Rattle.sv_model.specs.declared.records.Memtable.{Memtable}
 use Rattle.sv_model.specs.declared.records.MemtableList.{MemtableList}
 use Rattle.sv_model.specs.declared.records.Version.{Version}
-use Rattle.sv_model.specs.declared.records.FileMeta.{FileMeta}
-use Rattle.sv_model.specs.declared.records.FileStatus.TheVariants.{Pending, Live, Gone}
 use Rattle.sv_model.specs.declared.records.Family.{Family}
 use Rattle.sv_model.specs.declared.records.Top.{Top}
 use Rattle.sv_model.specs.Journal.{borne_by, of_family}
-use Rattle.sv_model.specs.Lists.{In, Every}
-use Rattle.sv_model.specs.Named.{numbers_of}
-use Rattle.sv_model.specs.Ranges.{reach_of}
-use Rattle.sv_model.specs.Registers.{entry, GoesOn}
+use Rattle.sv_model.specs.Lists.{In}
+use Rattle.sv_model.specs.Registers.{entry}
 use Rattle.sv_model.specs.Books.{Books}
-use Rattle.sv_model.specs.After.{KeepsNumber, After}
-use Rattle.sv_model.specs.Numbers.{IsRegistered}
-use Rattle.sv_model.specs.Described.{MembersJoin, FilesStand, IsFileOf}
-use Rattle.sv_model.specs.Steady.{Sound, IsFlush, IsMerge, IsAwaited}
-use Rattle.sv_model.proofs.Registers.{entry-new, entry-same, entry_push}
-use Rattle.sv_laws.specs.Installs.{IsFlushed, IsCompacted, IsCreated, IsParted}
-use Rattle.sv_laws.specs.Currents.{Installs, next_top, live_super, IsOpen}
-use Rattle.sv_laws.specs.Settling.{IsSettled}
-use Rattle.sv_laws.proofs.Items.{some, every_push, every_none, get_one, in-cons, in-none, in-right, none_some}
-use Rattle.sv_laws.proofs.Growing.{get_within, placed-set, placed-same, placed-push}
-use Rattle.sv_laws.proofs.Settled.{marked-goes, marked-keeps, marked-here, settled-captured}
-use Rattle.sv_laws.proofs.Metas.{captured-goes}
-use Rattle.sv_laws.proofs.StillFits.{join-le, file-on, files-join-push, join_reach, files-at}
+use Rattle.sv_model.specs.After.{After}
+use Rattle.sv_model.specs.Described.{IsFileOf}
+use Rattle.sv_model.specs.Steady.{Sound}
+use Rattle.sv_model.proofs.Registers.{entry-new}
+use Rattle.sv_laws.specs.NewCurrents.{IsFamilyMade}
+use Rattle.sv_laws.specs.Installs.{next_top, live_super}
+use Rattle.sv_laws.proofs.Items.{some, every_none, in-none, none_some}
+use Rattle.sv_laws.proofs.Growing.{get_within, placed-push}
 use Rattle.sv_laws.proofs.Installed.{installed}
 use Rattle.sv_laws.proofs.BorneRows.{unborne, unowned}
-use Rattle.sv_laws.proofs.OpenFamilies.{numbers_push, numbers-push, of_f, options_are, ends-at, says, active-lives, list-lives, version-lives, member, was, had, in-range, name-free, last-files, paired-set}
-use Rattle.sv_laws.proofs.OpenFamilies.{last_is, has-handles}
-use Rattle.sv_laws.proofs.Metas.{one-meta}
-use Rattle.sv_model.specs.Snapshots.{IsLastFile, IsAwaitedFile}
 use Rattle.sv_laws.proofs.BorneRows.{mem-within}
 use Rattle.sv_laws.specs.Growing.{IsPlaced}
 
-pub created : (a b : Books) (k : Sound a) (r : Family) → IsCreated a b r → Sound b × After a b
+pub created : (a b : Books) (k : Sound a) (r : Family) → IsFamilyMade a b r → Sound b × After a b
 created a b k r h =
     let f = length a.families in
     let none : of_family f a.journal ≡ [] = unowned a.journal f (λ i w e. (k.steady.borne i w e).family_made) in
     let zero_is : 0 ≡ length (of_family f a.journal) = sym (ap (λ (l : List Write). length l) none) in
-    let fresh : borne_by (length a.memtables + 1) a.journal ≡ [] = unborne a.journal (length a.memtables + 1) (λ i w e. omega (arith, mem-within (length a.memtables) (length a.families) w (k.steady.borne i w e))) in
-    let x : SuperVersion = live_super (record { family = f; active = length a.memtables + 1; list = length a.lists + 1; version = length a.versions + 1; base = 0; options = r.options }) h.place in
+    let fresh : borne_by (length a.memtables + 1) a.journal ≡ [] =
+    unborne a.journal (length a.memtables + 1)
+    (λ i w e. omega (arith, mem-within (length a.memtables) (length a.families) w (k.steady.borne i w e))) in
+    let x : SuperVersion =
+    live_super
+    (record {
+      family = f;
+      active = length a.memtables + 1;
+      list = length a.lists + 1;
+      version = length a.versions + 1;
+      base = 0;
+      options = r.options;
+    })
+    h.place in
     let y : Memtable = record { family = f; first = 0; cell = h.cell; live = true } in
     let z : MemtableList = record { members = []; live = true } in
     let v : Version = record { files = []; live = true } in
@@ -56,14 +55,28 @@ created a b k r h =
       families = a.families ++ r ∷ [];
       tops = a.tops ++ next_top a (length a.versions + 1) ∷ [];
     } in
-    let tops = subst (λ g. IsPlaced a.tops (a.tops ++ next_top a (length a.versions + 1) ∷ []) g (next_top a (length a.versions + 1))) k.lawful.paired (placed-push a.tops (next_top a (length a.versions + 1))) in
-    let no_top : (t : Top) → slice_get a.tops f ≡ Some t → ⊥ = λ t q. omega (arith, get_within a.tops f t q, k.lawful.paired) in
+    let tops =
+    subst
+    (λ g. IsPlaced a.tops (a.tops ++ next_top a (length a.versions + 1) ∷ []) g (next_top a (length a.versions + 1)))
+    k.lawful.paired (placed-push a.tops (next_top a (length a.versions + 1))) in
+    let no_top : (t : Top) → slice_get a.tops f ≡ Some t → ⊥ =
+    λ t q. omega (arith, get_within a.tops f t q, k.lawful.paired) in
     subst (λ (u : Books). Sound u × After a u) (sym h.is) (installed a e k f r x (record {
       rest = refl;
       family_is = refl;
       live = refl;
       room = h.room;
-      memtables = inr (y, refl, record { is_active = refl; live = refl; family_is = refl; first_is = zero_is; room = h.cell_room });
+      memtables = inr (
+        y,
+        refl,
+        record {
+          is_active = refl;
+          live = refl;
+          family_is = refl;
+          first_is = zero_is;
+          room = h.cell_room;
+        },
+      );
       lists = inr (z, refl, record { is_list = refl; live = refl; members = λ m i. absurd (in-none m i) });
       versions = inr (v, refl, record { is_version = refl; live = refl; files = λ n i. absurd (in-none n i) });
       files = inl refl;
@@ -81,7 +94,11 @@ created a b k r h =
         version = v;
         version_at = entry-new a.versions v (length a.versions + 1) refl;
         middle = 0;
-        files = record { joins = refl; each = every_none (IsFileOf a.files.numbers a.metas f); above = λ i m q low. absurd (none_some m q) };
+        files = record {
+          joins = refl;
+          each = every_none (IsFileOf a.files.numbers a.metas f);
+          above = λ i m q low. absurd (none_some m q);
+        };
         members = refl;
       };
       ends = omega (arith, ap (λ (l : List Write). length l) fresh, zero_is);
@@ -91,11 +108,17 @@ created a b k r h =
           let W = a.versions ++ v ∷ [] in
           let here : slice_get T f ≡ Some (next_top a (length a.versions + 1)) = tops.here in
           let last : w.top.last ≡ length a.versions + 1 = ap (λ (u : Top). u.last) (some (sym w.top_at ∙ here)) in
-          let same : w.version ≡ v = some (sym w.version_at ∙ ap (entry W) last ∙ entry-new a.versions v (length a.versions + 1) refl) in
+          let same : w.version ≡ v =
+          some (sym w.version_at ∙ ap (entry W) last ∙ entry-new a.versions v (length a.versions + 1) refl) in
           absurd (in-none m (subst (λ (z : Version). In m z.files) same w.has));
       families = placed-push a.families r;
       tops = tops;
-      paired = omega (arith, k.lawful.paired, length-append a.tops (next_top a (length a.versions + 1) ∷ []), length-append a.families (r ∷ []));
+      paired = omega (
+        arith,
+        k.lawful.paired,
+        length-append a.tops (next_top a (length a.versions + 1) ∷ []),
+        length-append a.families (r ∷ []),
+      );
       more = omega (arith, length-append a.families (r ∷ []));
       few_families = omega (arith, h.few, length-append a.families (r ∷ []));
       stands = h.stands;

@@ -1,4 +1,4 @@
--- Handles, drops, and the end of a current.
+-- Of one family the handles, the drop or the current changes.
 use Rattle.sv_model.specs.Registers.{entry}
 use Rattle.sv_laws.proofs.BorneRows.{borne-on}
 use Rattle.sv_model.specs.Snapshots.{IsLastFile}
@@ -6,14 +6,13 @@ use Rattle.sv_model.specs.Ranges.{reach_of}
 use Rattle.sv_laws.proofs.SnapshotLaws.{snapshots-kept}
 use Rattle.sv_model.specs.Journal.{of_family}
 use Rattle.sv_model.specs.declared.records.FileMeta.{FileMeta}
-use Rattle.std.proofs.Common.{◌≡◌, ◌≢◌, ◌==◌, ◌&&◌, ℕ, zero, suc, ◌⊎◌, inl, inr, ⊎_elim, Bool, true, false, List, [], ◌∷◌, length, Some, None, refl, sym, ap, ◌∙◌, subst, arith, set, length-set, ne_eqb}
+use Rattle.std.proofs.Common.{◌≡◌, ◌≢◌, ℕ, ◌⊎◌, inl, inr, ⊎_elim, Bool, true, false, List, length, Some, refl, sym, ap, ◌∙◌, subst, arith, set, length-set}
 use Rattle.std.specs.Prelude.{slice_get}
 use mathlib.Core.Logic.{dite}
 use native.Mathlib.Decide.{ℕ_discrete}
 use Rattle.sv_model.specs.declared.records.SuperVersion.{SuperVersion}
 use Rattle.sv_model.specs.declared.records.Family.{Family}
 use Rattle.sv_model.specs.declared.records.Top.{Top}
-use Rattle.sv_model.specs.Lists.{total, bit}
 use Rattle.sv_model.specs.After.{KeepsSuper, KeepsMemtable, KeepsList, KeepsVersion, KeepsNumber, KeepsFamily, After, KeepsSnapshot}
 use Rattle.sv_model.specs.Books.{Books, files_of}
 use Rattle.sv_model.specs.Families.{is_retired, IsDefault, InRange}
@@ -21,13 +20,12 @@ use Rattle.sv_model.specs.Named.{HasLast, NamedVersion}
 use Rattle.sv_model.specs.Lawful.{Lawful}
 use Rattle.sv_model.specs.Described.{LastFits, IsTop}
 use Rattle.sv_model.specs.Steady.{Sound, IsCurrent}
-use Rattle.sv_model.proofs.Lists.{total_at}
 use Rattle.sv_model.proofs.Registers.{goes-same}
 use Rattle.sv_model.proofs.AfterLaws.{continues-itself, super-itself, memtable-itself, list-itself, version-itself, number-itself, family-itself, snapshot-itself}
-use Rattle.sv_laws.specs.Families.{ChangesFamily, IsDropped, IsOpened, IsReleased, IsRetired, IsEnded, released}
+use Rattle.sv_laws.specs.Families.{ChangesFamily}
 use Rattle.sv_laws.specs.Growing.{IsPlaced}
 use Rattle.sv_laws.proofs.Items.{some, none_some}
-use Rattle.sv_laws.proofs.Growing.{placed_get, placed-goes, get_within, get-some, placed-set}
+use Rattle.sv_laws.proofs.Growing.{placed_get, placed-goes, placed-set}
 
 not-dropped : (b c : Bool) → (b ≡ true → c ≡ true) → c ≡ false → b ≡ false
 not-dropped false c h e = refl
@@ -69,23 +67,49 @@ module _ (a b : Books) (k : Sound a) (f : ℕ) (o y : Family) (t u : Top) (h : C
       (λ r. let had = h.had r (ap is_retired (sym o_is) ∙ w.stands) in let i = law.tops f had.0 o t h.at h.on had.1 in inl (had.0, i.it, i.at, record { live = i.live; is = i.last_is ∙ last }))
       (λ r. inr (record { id = f; family = y; top = u; at = pf.here; on = pt.here; stands = r; is = h.last_is ∙ last }))
       (bool (is_retired y)))
-      (λ q. inr (record { id = w.id; family = w.family; top = w.top; at = pf.others w.id q ∙ w.at; on = pt.others w.id q ∙ w.on; stands = w.stands; is = w.is }))
+      (λ q. inr (record {
+        id = w.id;
+        family = w.family;
+        top = w.top;
+        at = pf.others w.id q ∙ w.at;
+        on = pt.others w.id q ∙ w.on;
+        stands = w.stands;
+        is = w.is;
+      }))
 
   last-from : (v : ℕ) → HasLast v G T → HasLast v a.families a.tops
   last-from v w = dite (ℕ_discrete w.id f)
       (λ q.
       let y_is : w.family ≡ y = some (sym w.at ∙ ap (slice_get G) q ∙ pf.here) in
       let u_is : w.top ≡ u = some (sym w.on ∙ ap (slice_get T) q ∙ pt.here) in
-      record { id = f; family = o; top = t; at = h.at; on = h.on; stands = h.back (ap is_retired (sym y_is) ∙ w.stands); is = sym h.last_is ∙ ap (λ (z : Top). z.last) (sym u_is) ∙ w.is })
-      (λ q. record { id = w.id; family = w.family; top = w.top; at = sym (pf.others w.id q) ∙ w.at; on = sym (pt.others w.id q) ∙ w.on; stands = w.stands; is = w.is })
+      record {
+        id = f;
+        family = o;
+        top = t;
+        at = h.at;
+        on = h.on;
+        stands = h.back (ap is_retired (sym y_is) ∙ w.stands);
+        is = sym h.last_is ∙ ap (λ (z : Top). z.last) (sym u_is) ∙ w.is;
+      })
+      (λ q. record {
+        id = w.id;
+        family = w.family;
+        top = w.top;
+        at = sym (pf.others w.id q) ∙ w.at;
+        on = sym (pt.others w.id q) ∙ w.on;
+        stands = w.stands;
+        is = w.is;
+      })
 
-  fam : (g : ℕ) (z : Family) → slice_get G g ≡ Some z → ((g ≡ f) × (z ≡ y)) ⊎ ((g ≢ f) × (slice_get a.families g ≡ Some z))
+  fam : (g : ℕ) (z : Family) → slice_get G g ≡ Some z
+      → ((g ≡ f) × (z ≡ y)) ⊎ ((g ≢ f) × (slice_get a.families g ≡ Some z))
   fam = placed_get a.families G f y pf
 
   top : (g : ℕ) (z : Top) → slice_get T g ≡ Some z → ((g ≡ f) × (z ≡ u)) ⊎ ((g ≢ f) × (slice_get a.tops g ≡ Some z))
   top = placed_get a.tops T f u pt
 
-  lasts_law : (g : ℕ) (w : Top) → slice_get T g ≡ Some w → LastFits a.journal a.versions a.files.numbers a.metas g w.last
+  lasts_law : (g : ℕ) (w : Top) → slice_get T g ≡ Some w
+      → LastFits a.journal a.versions a.files.numbers a.metas g w.last
   lasts_law g w we = ⊎_elim
       (λ q. subst (λ (i : ℕ × ℕ). LastFits a.journal a.versions a.files.numbers a.metas i.0 i.1) (λ i. (sym q.0 i, (sym h.last_is ∙ ap (λ (j : Top). j.last) (sym q.1)) i)) (law.lasts f t h.on))
       (λ q. law.lasts g w q.1)
@@ -94,21 +118,38 @@ module _ (a b : Books) (k : Sound a) (f : ℕ) (o y : Family) (t u : Top) (h : C
   -- a file of a last Version was one
   last_back : (g : ℕ) (m : FileMeta) → IsLastFile a.versions T g m → IsLastFile a.versions a.tops g m
   last_back g m w = ⊎_elim
-      (λ q. record { top = t; top_at = ap (slice_get a.tops) q.0 ∙ h.on; version = w.version; version_at = ap (entry a.versions) (sym h.last_is ∙ ap (λ (j : Top). j.last) (sym q.1)) ∙ w.version_at; has = w.has })
+      (λ q. record {
+        top = t;
+        top_at = ap (slice_get a.tops) q.0 ∙ h.on;
+        version = w.version;
+        version_at = ap (entry a.versions) (sym h.last_is ∙ ap (λ (j : Top). j.last) (sym q.1)) ∙ w.version_at;
+        has = w.has;
+      })
       (λ q. record { top = w.top; top_at = q.1; version = w.version; version_at = w.version_at; has = w.has })
       (top g w.top w.top_at)
 
-  tops_law : (g s : ℕ) (z : Family) (w : Top) → slice_get G g ≡ Some z → slice_get T g ≡ Some w → w.current ≡ Some s → IsTop a.journal a.supers g z w.last s
+  tops_law : (g s : ℕ) (z : Family) (w : Top) → slice_get G g ≡ Some z → slice_get T g ≡ Some w → w.current ≡ Some s
+      → IsTop a.journal a.supers g z w.last s
   tops_law g s z w ze we cur = ⊎_elim
       (λ q.
       let z_is : y ≡ z = sym (some (sym ze ∙ ap (slice_get G) q.0 ∙ pf.here)) in
       let i = law.tops f s o t h.at h.on (was-current s (ap (λ (j : Top). j.current) (sym q.1) ∙ cur)) in
-      record { it = i.it; at = i.at; live = i.live; family_is = i.family_is ∙ sym q.0; last_is = i.last_is ∙ sym h.last_is ∙ ap (λ (j : Top). j.last) (sym q.1); options_are = i.options_are ∙ sym h.options_are ∙ ap (λ (j : Family). j.options) z_is; greatest = λ n x at of_g. i.greatest n x at (of_g ∙ q.0); ends = i.ends ∙ ap (λ j. length (of_family j a.journal)) (sym q.0) })
+      record {
+        it = i.it;
+        at = i.at;
+        live = i.live;
+        family_is = i.family_is ∙ sym q.0;
+        last_is = i.last_is ∙ sym h.last_is ∙ ap (λ (j : Top). j.last) (sym q.1);
+        options_are = i.options_are ∙ sym h.options_are ∙ ap (λ (j : Family). j.options) z_is;
+        greatest = λ n x at of_g. i.greatest n x at (of_g ∙ q.0);
+        ends = i.ends ∙ ap (λ j. length (of_family j a.journal)) (sym q.0);
+      })
       (λ q. law.tops g s z w (sym (pf.others g q.0) ∙ ze) q.1 cur)
       (top g w we)
 
   -- a family that is not dropped was not, and had its name
-  open_back : (g : ℕ) (z : Family) → slice_get G g ≡ Some z → z.dropped ≡ false → (w : Family) × (slice_get a.families g ≡ Some w) × (w.dropped ≡ false) × (z.name ≡ w.name)
+  open_back : (g : ℕ) (z : Family) → slice_get G g ≡ Some z → z.dropped ≡ false
+      → (w : Family) × (slice_get a.families g ≡ Some w) × (w.dropped ≡ false) × (z.name ≡ w.name)
   open_back g z ze st = ⊎_elim
       (λ q. (o, ap (slice_get a.families) q.0 ∙ h.at, not-dropped o.dropped y.dropped h.dropped (ap (λ (j : Family). j.dropped) (sym q.1) ∙ st), ap (λ (j : Family). j.name) q.1 ∙ h.name_is))
       (λ q. (z, q.1, st, refl))
@@ -116,12 +157,29 @@ module _ (a b : Books) (k : Sound a) (f : ℕ) (o y : Family) (t u : Top) (h : C
 
   default_law : IsDefault G
   default_law = dite (ℕ_discrete 0 f)
-      (λ q. record { it = y; at = ap (slice_get G) q ∙ pf.here; name_is = h.name_is ∙ ap (λ (j : Family). j.name) (some (sym h.at ∙ ap (slice_get a.families) (sym q) ∙ law.default.at)) ∙ law.default.name_is; stands = h.default (sym q) })
-      (λ q. record { it = law.default.it; at = pf.others 0 q ∙ law.default.at; name_is = law.default.name_is; stands = law.default.stands })
+      (λ q. record {
+        it = y;
+        at = ap (slice_get G) q ∙ pf.here;
+        name_is = h.name_is
+            ∙ ap (λ (j : Family). j.name) (some (sym h.at ∙ ap (slice_get a.families) (sym q) ∙ law.default.at))
+            ∙ law.default.name_is;
+        stands = h.default (sym q);
+      })
+      (λ q. record {
+        it = law.default.it;
+        at = pf.others 0 q ∙ law.default.at;
+        name_is = law.default.name_is;
+        stands = law.default.stands;
+      })
 
   current_back : (g s : ℕ) (x : SuperVersion) → IsCurrent T a.supers g s x → IsCurrent a.tops a.supers g s x
   current_back g s x c = ⊎_elim
-      (λ q. record { top = t; at = ap (slice_get a.tops) q.0 ∙ h.on; is = was-current s (ap (λ (j : Top). j.current) (sym q.1) ∙ c.is); has = c.has })
+      (λ q. record {
+        top = t;
+        at = ap (slice_get a.tops) q.0 ∙ h.on;
+        is = was-current s (ap (λ (j : Top). j.current) (sym q.1) ∙ c.is);
+        has = c.has;
+      })
       (λ q. record { top = c.top; at = q.1; is = c.is; has = c.has })
       (top g c.top c.at)
 
@@ -143,7 +201,12 @@ module _ (a b : Books) (k : Sound a) (f : ℕ) (o y : Family) (t u : Top) (h : C
       numbers = law.numbers;
       metas = law.metas;
       cuts = law.cuts;
-      snapshots = snapshots-kept a e law.snapshots (record { journal = continues-itself a.journal; snapshots = refl; lasts = λ g m i. inl (last_back g m i); awaited = λ g m i. inl i });
+      snapshots = snapshots-kept a e law.snapshots (record {
+        journal = continues-itself a.journal;
+        snapshots = refl;
+        lasts = λ g m i. inl (last_back g m i);
+        awaited = λ g m i. inl i;
+      });
       places = law.places;
       cells = law.cells;
       distinct = λ g i z w ze we zd wd n. let p = open_back g z ze zd in let q = open_back i w we wd in law.distinct g i p.0 q.0 p.1 q.1 p.2 q.2 (sym p.3 ∙ n ∙ q.3);
@@ -157,13 +220,22 @@ module _ (a b : Books) (k : Sound a) (f : ℕ) (o y : Family) (t u : Top) (h : C
         writes = law.limits.writes;
         holds = law.limits.holds;
         jobs = law.limits.jobs;
-        options = λ g z ze. ⊎_elim (λ q. subst InRange (sym h.options_are ∙ ap (λ (j : Family). j.options) (sym q.1)) (law.limits.options f o h.at)) (λ q. law.limits.options g z q.1) (fam g z ze);
+        options = λ g z ze. ⊎_elim
+            (λ q. subst InRange (sym h.options_are ∙ ap (λ (j : Family). j.options) (sym q.1)) (law.limits.options f o h.at))
+            (λ q. law.limits.options g z q.1)
+            (fam g z ze);
       };
     };
     steady = record {
-      borne = λ i w at. borne-on (length a.memtables) (length a.families) (length a.memtables) (length G) w (omega arith) (omega (arith, length-set a.families f y)) (k.steady.borne i w at);
+      borne = λ i w at.
+          borne-on (length a.memtables) (length a.families) (length a.memtables) (length G) w (omega arith)
+          (omega (arith, length-set a.families f y)) (k.steady.borne i w at);
       supers_of = λ n x at. omega (arith, k.steady.supers_of n x at, length-set a.families f y);
-      listed = λ l m z at i. let j = k.steady.listed l m z at i in record { it = j.it; at = j.at; before = λ s x c. j.before s x (current_back j.it.family s x c) };
+      listed = λ l m z at i. let j = k.steady.listed l m z at i in record {
+        it = j.it;
+        at = j.at;
+        before = λ s x c. j.before s x (current_back j.it.family s x c);
+      };
       awaited = λ g n s x ca c. k.steady.awaited g n s x ca (current_back g s x c);
       covers = k.steady.covers;
       retired = λ g z w ze we r. ⊎_elim
@@ -173,7 +245,10 @@ module _ (a b : Books) (k : Sound a) (f : ℕ) (o y : Family) (t u : Top) (h : C
       busy = λ g n c. omega (arith, k.steady.busy g n c, length-set a.families f y);
       captured = k.steady.captured;
       holds = k.steady.holds;
-      handles = λ g z ze. ⊎_elim (λ q. ap (λ (j : Family). length j.handles) q.1 ∙ h.handles ∙ k.steady.handles f o h.at) (λ q. k.steady.handles g z q.1) (fam g z ze);
+      handles = λ g z ze. ⊎_elim
+          (λ q. ap (λ (j : Family). length j.handles) q.1 ∙ h.handles ∙ k.steady.handles f o h.at)
+          (λ q. k.steady.handles g z q.1)
+          (fam g z ze);
       memtables_made = k.steady.memtables_made;
       lists_made = k.steady.lists_made;
       versions_made = k.steady.versions_made;
@@ -190,13 +265,20 @@ module _ (a b : Books) (k : Sound a) (f : ℕ) (o y : Family) (t u : Top) (h : C
     numbers = goes-same KeepsNumber a.files.numbers number-itself;
     metas = continues-itself a.metas;
     next = omega arith;
-    families = placed-goes a.families G f y pf KeepsFamily family-itself (λ z ze. let q : o ≡ z = some (sym h.at ∙ ze) in record { name = h.name_is ∙ ap (λ (j : Family). j.name) q; dropped = λ d. h.dropped (ap (λ (j : Family). j.dropped) q ∙ d) });
+    families = placed-goes a.families G f y pf KeepsFamily family-itself
+        (λ z ze. let q : o ≡ z = some (sym h.at ∙ ze) in record {
+          name = h.name_is ∙ ap (λ (j : Family). j.name) q;
+          dropped = λ d. h.dropped (ap (λ (j : Family). j.dropped) q ∙ d);
+        });
     tops = λ g w we. dite (ℕ_discrete g f)
         (λ q. let t_is : t ≡ w = some (sym h.on ∙ ap (slice_get a.tops) (sym q) ∙ we) in (
           u,
           ap (slice_get T) q ∙ pt.here,
           record {
-            reach = omega (arith, ap (λ j. reach_of (files_of a.versions j)) (ap (λ (j : Top). j.last) (sym t_is) ∙ sym h.last_is));
+            reach = omega (
+              arith,
+              ap (λ j. reach_of (files_of a.versions j)) (ap (λ (j : Top). j.last) (sym t_is) ∙ sym h.last_is),
+            );
             ended = λ _ none. ⊎_elim (λ r. r ∙ ap (λ (j : Top). j.current) t_is ∙ none) (λ r. r) h.current;
           },
         ))
@@ -205,142 +287,5 @@ module _ (a b : Books) (k : Sound a) (f : ℕ) (o y : Family) (t u : Top) (h : C
     snapshots = goes-same KeepsSnapshot a.snapshots snapshot-itself;
   }
 
-  pub reshaped : Sound b × After a b
-  reshaped = subst (λ (z : Books). Sound z × After a z) (sym h.is) (sound, after)
-
--- ---- the five
-
-set-self : {A : Type 0} (l : List A) (f : ℕ) (x : A) → slice_get l f ≡ Some x → set l f x ≡ l
-set-self [] f x e = absurd (cc)
-set-self (y ∷ l) zero x e = let q : x ≡ y = sym (some e) in ap (λ z. z ∷ l) q
-set-self (y ∷ l) (suc f) x e = ap (λ z. y ∷ z) (set-self l f x e)
-
--- a family with a handle is not retired
-pub not-retired : (y : Family) (lane : ℕ) → slice_get y.handles lane ≡ Some true → is_retired y ≡ false
-not-retired y lane e = by y.dropped (total bit y.handles == 0) (ne_eqb (total bit y.handles) 0 (λ q. omega (arith, total_at bit y.handles lane true e, q)))
-  where
-    by : (b c : Bool) → c ≡ false → (b && c) ≡ false
-    by true c h = h
-    by false c h = refl
-
-pub not-retired-open : (y : Family) → y.dropped ≡ false → is_retired y ≡ false
-not-retired-open y e = ap (λ b. b && (total bit y.handles == 0)) e
-
-false_true : {A : Type 0} → false ≡ true → A
-false_true e = absurd (cc)
-
-retired-other : (y : Family) → y.dropped ≡ true → y.dropped ≡ false → ⊥
-retired-other y p q = false_true (sym q ∙ p)
-
-dropped-of : (y : Family) → is_retired y ≡ true → y.dropped ≡ true
-dropped-of y e = by y.dropped (total bit y.handles == 0) e
-  where
-    by : (b c : Bool) → (b && c) ≡ true → b ≡ true
-    by true c h = refl
-    by false c h = absurd (let z : false ≡ true = h in cc)
-
-module _ (a b : Books) (k : Sound a) (f : ℕ) where
-  top-of : (y : Family) → slice_get a.families f ≡ Some y → (t : Top) × (slice_get a.tops f ≡ Some t)
-  top-of y e = get-some a.tops f (omega (arith, get_within a.families f y e, k.lawful.paired))
-
-  pub dropped : (lane : ℕ) → IsDropped a b f lane → Sound b × After a b
-  dropped lane h =
-      let t = top-of h.it h.at in
-      let y : Family = record h.it { dropped = true } in
-      let open_ : is_retired y ≡ false = not-retired y lane h.handle in
-      reshaped a b k f h.it y t.0 t.0 (record {
-        at = h.at;
-        on = t.1;
-        name_is = refl;
-        options_are = refl;
-        handles = refl;
-        dropped = λ _. refl;
-        default = λ q. absurd (omega (arith, h.other, q));
-        last_is = refl;
-        current = inl refl;
-        back = λ _. not-retired h.it lane h.handle;
-        ended = λ r. false_true (sym open_ ∙ r);
-        had = λ r. false_true (sym open_ ∙ r);
-        is = h.is ∙ ap (λ (T : List Top). record a { families = set a.families f y; tops = T }) (sym (set-self a.tops f t.0 t.1));
-      })
-
-  default-stands : (y : Family) → slice_get a.families f ≡ Some y → f ≡ 0 → y.dropped ≡ false
-  default-stands y e q = let d = k.lawful.default in ap (λ (z : Family). z.dropped) (some (sym e ∙ ap (slice_get a.families) q ∙ d.at)) ∙ d.stands
-
-  pub opened : (lane : ℕ) → IsOpened a b f lane → Sound b × After a b
-  opened lane h =
-      let t = top-of h.it h.at in
-      let y : Family = record h.it { handles = set h.it.handles lane true } in
-      let open_ : is_retired y ≡ false = not-retired-open y h.stands in
-      reshaped a b k f h.it y t.0 t.0 (record {
-        at = h.at;
-        on = t.1;
-        name_is = refl;
-        options_are = refl;
-        handles = length-set h.it.handles lane true;
-        dropped = λ e. e;
-        default = λ q. h.stands;
-        last_is = refl;
-        current = inl refl;
-        back = λ _. not-retired-open h.it h.stands;
-        ended = λ r. false_true (sym open_ ∙ r);
-        had = λ r. false_true (sym open_ ∙ r);
-        is = h.is ∙ ap (λ (T : List Top). record a { families = set a.families f y; tops = T }) (sym (set-self a.tops f t.0 t.1));
-      })
-
-  pub let-go : (lane : ℕ) → IsReleased a b f lane → Sound b × After a b
-  let-go lane h =
-      let t = top-of h.it h.at in
-      let y : Family = released h.it lane in
-      reshaped a b k f h.it y t.0 t.0 (record {
-        at = h.at;
-        on = t.1;
-        name_is = refl;
-        options_are = refl;
-        handles = length-set h.it.handles lane false;
-        dropped = λ e. e;
-        default = λ q. default-stands h.it h.at q;
-        last_is = refl;
-        current = inl refl;
-        back = λ _. not-retired h.it lane h.handle;
-        ended = λ r. false_true (sym h.kept ∙ r);
-        had = λ r. false_true (sym h.kept ∙ r);
-        is = h.is ∙ ap (λ (T : List Top). record a { families = set a.families f y; tops = T }) (sym (set-self a.tops f t.0 t.1));
-      })
-
-  pub retired : (lane : ℕ) → IsRetired a b f lane → Sound b × After a b
-  retired lane h =
-      let y : Family = released h.it lane in
-      reshaped a b k f h.it y h.top (record h.top { current = None }) (record {
-        at = h.at;
-        on = h.on;
-        name_is = refl;
-        options_are = refl;
-        handles = length-set h.it.handles lane false;
-        dropped = λ e. e;
-        default = λ q. default-stands h.it h.at q;
-        last_is = refl;
-        current = inr refl;
-        back = λ _. not-retired h.it lane h.handle;
-        ended = λ _. refl;
-        had = λ _ _. (h.s, h.current);
-        is = h.is;
-      })
-
-  pub ended : IsEnded a b f → Sound b × After a b
-  ended h =
-      reshaped a b k f h.it h.it h.top (record h.top { current = None }) (record {
-        at = h.at;
-        on = h.on;
-        name_is = refl;
-        options_are = refl;
-        handles = refl;
-        dropped = λ e. e;
-        default = λ q. h.stands;
-        last_is = refl;
-        current = inr refl;
-        back = λ e. e;
-        ended = λ _. refl;
-        had = λ r q. false_true (sym q ∙ r);
-        is = h.is ∙ ap (λ (F : List Family). record a { families = F; tops = set a.tops f (record h.top { current = None }) }) (sym (set-self a.families f h.it h.at));
-      })
+  pub family-changed : Sound b × After a b
+  family-changed = subst (λ (z : Books). Sound z × After a z) (sym h.is) (sound, after)

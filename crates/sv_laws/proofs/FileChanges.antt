@@ -44,15 +44,24 @@ module _ (a b : Books) (k : Sound a) (h : ChangesFiles a b) where
       lists = law.lists;
       versions = law.versions;
       files = λ n. (λ w. (law.files n).0 ((h.live n).1 w), λ w. (h.live n).0 ((law.files n).1 w));
-      descriptors = λ i r at live. describes-on a.files.numbers b.files.numbers h.goes a.metas b.metas gx a.journal a.memtables a.memtables a.lists a.lists a.versions a.versions gm gl gv r.descriptor (law.descriptors i r at live);
-      lasts = λ g t te. last-on a.files.numbers b.files.numbers h.goes a.metas b.metas gx a.journal a.versions a.versions gv g t.last (law.lasts g t te);
+      descriptors = λ i r at live.
+          describes-on a.files.numbers b.files.numbers h.goes a.metas b.metas gx a.journal a.memtables a.memtables
+          a.lists a.lists a.versions a.versions gm gl gv r.descriptor (law.descriptors i r at live);
+      lasts = λ g t te.
+          last-on a.files.numbers b.files.numbers h.goes a.metas b.metas gx a.journal a.versions a.versions gv g
+          t.last (law.lasts g t te);
       rows = law.rows;
       tops = law.tops;
       paired = law.paired;
       numbers = h.numbers;
       metas = h.metas_are;
       cuts = h.cuts;
-      snapshots = snapshots-kept a e law.snapshots (record { journal = continues-itself a.journal; snapshots = refl; lasts = λ g m i. inl i; awaited = h.clear });
+      snapshots = snapshots-kept a e law.snapshots (record {
+        journal = continues-itself a.journal;
+        snapshots = refl;
+        lasts = λ g m i. inl i;
+        awaited = h.clear;
+      });
       places = law.places;
       cells = law.cells;
       distinct = law.distinct;
@@ -102,9 +111,13 @@ module _ (a b : Books) (k : Sound a) (h : ChangesFiles a b) where
     snapshots = goes-same KeepsSnapshot a.snapshots snapshot-itself;
   }
 
-  pub refiled : Sound b × After a b
-  refiled = subst (λ (z : Books). Sound z × After a z) (sym h.is) (sound, after)
+  pub files-changed : Sound b × After a b
+  files-changed = subst (λ (z : Books). Sound z × After a z) (sym h.is) (sound, after)
 
-pub awaited-metas : (a : Books) (Y : List FileMeta) → ((m : FileMeta) → In m a.metas → In m Y) → (n : ℕ) (x : SuperVersion) → IsAwaited a.journal a.memtables a.lists a.versions a.metas n x.descriptor → IsAwaited a.journal a.memtables a.lists a.versions Y n x.descriptor
-awaited-metas a Y gx n x w = awaited-on a.files.numbers a.files.numbers (goes-same KeepsNumber a.files.numbers number-itself) a.metas Y gx a.journal a.memtables a.memtables a.lists a.lists a.versions a.versions
+pub awaited-metas : (a : Books) (Y : List FileMeta) → ((m : FileMeta) → In m a.metas → In m Y)
+    → (n : ℕ) (x : SuperVersion) → IsAwaited a.journal a.memtables a.lists a.versions a.metas n x.descriptor
+    → IsAwaited a.journal a.memtables a.lists a.versions Y n x.descriptor
+awaited-metas a Y gx n x w =
+    awaited-on a.files.numbers a.files.numbers (goes-same KeepsNumber a.files.numbers number-itself) a.metas Y gx
+    a.journal a.memtables a.memtables a.lists a.lists a.versions a.versions
     (goes-same KeepsMemtable a.memtables memtable-itself) (goes-same KeepsList a.lists list-itself) (goes-same KeepsVersion a.versions version-itself) n x.descriptor w

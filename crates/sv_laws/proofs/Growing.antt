@@ -12,7 +12,8 @@ use Rattle.sv_laws.proofs.Items.{some}
 
 module _ {A : Type 0} (P : ℕ → A → Type 0) (a b : List A) where
   -- an entry is an old one, or the new one
-  pub grown_entry : Grows P a b → (n : ℕ) (x : A) → entry b n ≡ Some x → (entry a n ≡ Some x) ⊎ ((n ≡ length a + 1) × P n x)
+  pub grown_entry : Grows P a b → (n : ℕ) (x : A) → entry b n ≡ Some x
+      → (entry a n ≡ Some x) ⊎ ((n ≡ length a + 1) × P n x)
   grown_entry g n x e = ⊎_elim
       (λ q. inl (subst (λ l. entry l n ≡ Some x) q e))
       (λ h. ⊎_elim (λ o. inl o) (λ o. inr (o.0, subst (λ (z : ℕ × A). P z.0 z.1) (λ i. (sym o.0 i, sym o.1 i)) h.2)) (entry_push a h.0 n x (subst (λ l. entry l n ≡ Some x) h.1 e)))
@@ -31,13 +32,16 @@ module _ {A : Type 0} (P : ℕ → A → Type 0) (a b : List A) where
   grown-has g Q h = (h.0, h.1, grown-old g h.0 h.1 h.2, h.3)
 
   pub grown-longer : Grows P a b → length a ≤ length b
-  grown-longer g = ⊎_elim (λ q. omega (arith, ap length q)) (λ h. omega (arith, ap length h.1, length-append a (h.0 ∷ []))) g
+  grown-longer g =
+      ⊎_elim (λ q. omega (arith, ap length q)) (λ h. omega (arith, ap length h.1, length-append a (h.0 ∷ []))) g
 
   pub grown-shorter : Grows P a b → length b ≤ length a + 1
-  grown-shorter g = ⊎_elim (λ q. omega (arith, ap length q)) (λ h. omega (arith, ap length h.1, length-append a (h.0 ∷ []))) g
+  grown-shorter g =
+      ⊎_elim (λ q. omega (arith, ap length q)) (λ h. omega (arith, ap length h.1, length-append a (h.0 ∷ []))) g
 
   -- a sum with terms of 1 at most
-  pub grown-total : Grows P a b → (w : A → ℕ) (k : ℕ) → ((x : A) → w x ≤ 1) → total w a ≤ k → ((n : ℕ) (y : A) → P n y → total w a < k) → total w b ≤ k
+  pub grown-total : Grows P a b → (w : A → ℕ) (k : ℕ) → ((x : A) → w x ≤ 1) → total w a ≤ k
+      → ((n : ℕ) (y : A) → P n y → total w a < k) → total w b ≤ k
   grown-total g w k one all new = ⊎_elim
       (λ q. omega (arith, all, ap (total w) q))
       (λ h. omega (arith, new (length a + 1) h.0 h.2, ap (total w) h.1, total-push w a h.0, one h.0))
@@ -65,7 +69,10 @@ get-some (x ∷ l) zero h = (x, refl)
 get-some (x ∷ l) (suc n) h = get-some l n (omega arith)
 
 pub placed-set : {A : Type 0} (l : List A) (f : ℕ) (z y : A) → slice_get l f ≡ Some z → IsPlaced l (set l f y) f y
-placed-set l f z y e = record { here = entry-same l (suc f) z y e; others = λ g d. entry-else l (suc f) (suc g) y (λ q. d (let o : g ≡ f = omega (arith, q) in o)) }
+placed-set l f z y e = record {
+  here = entry-same l (suc f) z y e;
+  others = λ g d. entry-else l (suc f) (suc g) y (λ q. d (let o : g ≡ f = omega (arith, q) in o));
+}
 
 pub placed-same : {A : Type 0} (l : List A) (f : ℕ) (z : A) → slice_get l f ≡ Some z → IsPlaced l l f z
 placed-same l f z e = record { here = e; others = λ g d. refl }

@@ -1,47 +1,39 @@
 -- A SuperVersion becomes current: what it names fits together, and so does what others name still.
 use Rattle.sv_model.specs.Snapshots.{IsLastFile, SnapshotsStand, IsAwaitedFile}
-use Rattle.std.proofs.Common.{◌≡◌, ◌≢◌, ◌<◌, ◌≤◌, ℕ, suc, ◌+◌, ◌⊎◌, inl, inr, ⊎_elim, true, false, Bool, ◌&&◌, ◌==◌, List, [], ◌∷◌, ◌++◌, length, take, drop, cond, Some, None, refl, sym, ap, ◌∙◌, subst, arith, ne_eqb, length-append}
-use Rattle.std.specs.Prelude.{slice_get, ◌↔◌}
+use Rattle.std.proofs.Common.{◌≡◌, ◌≢◌, ℕ, ◌+◌, ◌⊎◌, inl, ⊎_elim, true, List, [], ◌∷◌, ◌++◌, length, take, drop, Some, refl, sym, ap, ◌∙◌, subst, arith, length-append}
+use Rattle.std.specs.Prelude.{slice_get}
 use mathlib.Core.Logic.{dite}
 use native.Mathlib.Decide.{ℕ_discrete}
 use Rattle.sv_model.specs.declared.writes.Write.{Write}
 use Rattle.sv_model.specs.declared.records.SuperVersion.{SuperVersion}
 use Rattle.sv_model.specs.declared.records.Descriptor.{Descriptor}
 use Rattle.sv_model.specs.declared.records.Memtable.{Memtable}
-use Rattle.sv_model.specs.declared.records.MemtableList.{MemtableList}
 use Rattle.sv_model.specs.declared.records.Version.{Version}
 use Rattle.sv_model.specs.declared.records.FileMeta.{FileMeta}
 use Rattle.sv_model.specs.declared.records.Family.{Family}
 use Rattle.sv_model.specs.declared.records.Top.{Top}
-use Rattle.sv_model.specs.declared.records.FileStatus.TheVariants.{Pending, Live, Grabbed, Gone}
+use Rattle.sv_model.specs.declared.records.FileStatus.TheVariants.{Pending, Live}
 use Rattle.sv_model.specs.Journal.{borne_by, of_family}
-use Rattle.sv_model.specs.Lists.{In, total, bit, Every}
-use Rattle.sv_model.specs.Named.{HasMember, HasFile, numbers_of, IsLive, memtable_live, list_live, version_live, UsesMemtable, UsesList, UsesVersion, HasLast, NamedMemtable, NamedVersion}
-use Rattle.sv_model.specs.Registers.{entry, Has, GoesOn, EachEntry}
-use Rattle.sv_model.specs.After.{KeepsSuper, KeepsMemtable, KeepsList, KeepsVersion, KeepsNumber, KeepsFamily, After}
+use Rattle.sv_model.specs.Lists.{In}
+use Rattle.sv_model.specs.Named.{numbers_of}
+use Rattle.sv_model.specs.Registers.{entry, GoesOn}
+use Rattle.sv_model.specs.After.{KeepsMemtable, KeepsList, KeepsVersion, KeepsNumber}
 use Rattle.sv_model.specs.Books.{Books, FileRegister}
-use Rattle.sv_model.specs.Families.{is_retired, IsDefault, InRange}
-use Rattle.sv_model.specs.Numbers.{NumbersStand, IsRegistered, captures, captured_numbers}
+use Rattle.sv_model.specs.Numbers.{NumbersStand, captured_numbers}
 use Rattle.sv_model.specs.Lawful.{Lawful}
 use Rattle.sv_model.specs.Described.{Describes, LastFits, FilesStand, BearsFrom, IsTop}
-use Rattle.sv_model.specs.Steady.{Sound, Steady, IsCurrent, IsListed, IsAwaited}
-use Rattle.sv_model.proofs.Lists.{total-push}
-use Rattle.sv_model.proofs.Registers.{entry-old, entry-new, entry_push, entry_le, goes-same, goes-push, length-change}
-use Rattle.sv_model.proofs.AfterLaws.{continues-itself, super-itself, memtable-itself, list-itself, version-itself, number-itself, family-itself}
-use Rattle.sv_laws.specs.Currents.{Installs, IsNewMemtable, IsNewList, IsNewVersion}
+use Rattle.sv_model.specs.Steady.{Sound}
+use Rattle.sv_model.proofs.Registers.{entry-old, entry-new, entry_push, entry_le}
+use Rattle.sv_model.proofs.AfterLaws.{continues-itself}
+use Rattle.sv_laws.specs.Installs.{Installs, IsNewMemtable, IsNewVersion}
 use Rattle.sv_laws.proofs.Items.{some}
-use Rattle.sv_laws.proofs.Growing.{grown_entry, grown-old, grown-goes, grown-has, grown-longer, grown-shorter, grown-total, placed_get, placed-goes, get_within, get-some}
-use Rattle.sv_laws.proofs.Settled.{marked-goes, marked-keeps, marked_is, marked-captures, settled-captured, settled-others, settled_other, numbers-settled, marked-captured_numbers}
-use Rattle.sv_laws.proofs.StillFits.{last-on, describes-on, awaited-on, reach-on, join-le, join_in}
+use Rattle.sv_laws.proofs.Growing.{grown_entry, grown-old, placed_get}
+use Rattle.sv_laws.proofs.Settled.{settled-others, settled_other, numbers-settled, marked-captured_numbers}
+use Rattle.sv_laws.proofs.StillFits.{last-on, describes-on, join-le}
 use Rattle.sv_laws.proofs.InstallNames.{memtables-on, lists-on, versions-on, numbers-on}
 use Rattle.sv_laws.proofs.SnapshotLaws.{snapshots-kept}
 use Rattle.sv_laws.proofs.BorneRows.{unborne, mem-within}
-
-not_pending : Live ≡ Pending → ⊥
-not_pending e = absurd (cc)
-
-not_grabbed : Live ≡ Grabbed → ⊥
-not_grabbed e = absurd (cc)
+use Rattle.sv_laws.proofs.Apart.{live_grabbed, live_pending}
 
 module _ (a b : Books) (k : Sound a) (f : ℕ) (r : Family) (x : SuperVersion) (h : Installs a b f r x) where
   abbrev S : List SuperVersion
@@ -77,10 +69,12 @@ module _ (a b : Books) (k : Sound a) (f : ℕ) (r : Family) (x : SuperVersion) (
   gx : (m : FileMeta) → In m a.metas → In m a.metas
   gx m i = i
 
-  sup : (i : ℕ) (s : SuperVersion) → entry S i ≡ Some s → (entry a.supers i ≡ Some s) ⊎ ((i ≡ length a.supers + 1) × (s ≡ x))
+  sup : (i : ℕ) (s : SuperVersion) → entry S i ≡ Some s
+      → (entry a.supers i ≡ Some s) ⊎ ((i ≡ length a.supers + 1) × (s ≡ x))
   sup = entry_push a.supers x
 
-  pub descriptors_law : (i : ℕ) (s : SuperVersion) → entry S i ≡ Some s → s.live ≡ true → Describes a.journal b.memtables b.lists b.versions b.files.numbers a.metas s.descriptor
+  pub descriptors_law : (i : ℕ) (s : SuperVersion) → entry S i ≡ Some s → s.live ≡ true
+      → Describes a.journal b.memtables b.lists b.versions b.files.numbers a.metas s.descriptor
   descriptors_law i s e l = ⊎_elim
       (λ o. describes-on a.files.numbers b.files.numbers gn a.metas a.metas gx a.journal a.memtables b.memtables a.lists b.lists a.versions b.versions gm gl gv s.descriptor (law.descriptors i s o l))
       (λ o. subst (λ (w : SuperVersion). Describes a.journal b.memtables b.lists b.versions b.files.numbers a.metas w.descriptor) (sym o.1) h.describes)
@@ -94,17 +88,25 @@ module _ (a b : Books) (k : Sound a) (f : ℕ) (r : Family) (x : SuperVersion) (
         at = t.version_at;
         to = t.middle;
         files = subst (λ i. FilesStand b.files.numbers a.metas i t.version.files t.middle) h.family_is t.files;
-        within = omega (arith, join-le a.journal b.memtables d.family t.list.members t.middle d.base t.members, t.within, ap (λ i. length (of_family i a.journal)) h.family_is);
+        within = omega (
+          arith,
+          join-le a.journal b.memtables d.family t.list.members t.middle d.base t.members,
+          t.within,
+          ap (λ i. length (of_family i a.journal)) h.family_is,
+        );
       }
 
-  pub lasts_law : (g : ℕ) (t : Top) → slice_get b.tops g ≡ Some t → LastFits a.journal b.versions b.files.numbers a.metas g t.last
+  pub lasts_law : (g : ℕ) (t : Top) → slice_get b.tops g ≡ Some t
+      → LastFits a.journal b.versions b.files.numbers a.metas g t.last
   lasts_law g t w = ⊎_elim
       (λ q. subst (λ (z : ℕ × Top). LastFits a.journal b.versions b.files.numbers a.metas z.0 z.1.last) (λ i. (sym q.0 i, sym q.1 i)) new-last)
       (λ q. last-on a.files.numbers b.files.numbers gn a.metas a.metas gx a.journal a.versions b.versions gv g t.last (law.lasts g t q.1))
       (placed_get a.tops b.tops f top h.tops g t w)
 
   fresh : (m : ℕ) → m ≡ length a.memtables + 1 → borne_by m a.journal ≡ []
-  fresh m q = unborne a.journal m (λ i w e. omega (arith, mem-within (length a.memtables) (length a.families) w (k.steady.borne i w e), q))
+  fresh m q =
+      unborne a.journal m
+      (λ i w e. omega (arith, mem-within (length a.memtables) (length a.families) w (k.steady.borne i w e), q))
 
   pub rows_law : (m : ℕ) (y : Memtable) → entry b.memtables m ≡ Some y → BearsFrom a.journal m y
   rows_law m y e = ⊎_elim
@@ -116,7 +118,8 @@ module _ (a b : Books) (k : Sound a) (f : ℕ) (r : Family) (x : SuperVersion) (
       })
       (grown_entry PM a.memtables b.memtables h.memtables m y e)
 
-  pub tops_law : (g s : ℕ) (y : Family) (t : Top) → slice_get b.families g ≡ Some y → slice_get b.tops g ≡ Some t → t.current ≡ Some s → IsTop a.journal S g y t.last s
+  pub tops_law : (g s : ℕ) (y : Family) (t : Top) → slice_get b.families g ≡ Some y → slice_get b.tops g ≡ Some t
+      → t.current ≡ Some s → IsTop a.journal S g y t.last s
   tops_law g s y t e w cur = ⊎_elim
       (λ q.
       let s_is : s ≡ length a.supers + 1 = some (sym cur ∙ ap (λ (z : Top). z.current) q.1) in
@@ -140,7 +143,10 @@ module _ (a b : Books) (k : Sound a) (f : ℕ) (r : Family) (x : SuperVersion) (
         family_is = o.family_is;
         last_is = o.last_is;
         options_are = o.options_are;
-        greatest = λ n z p of_g. ⊎_elim (λ z_old. o.greatest n z z_old of_g) (λ z_new. absurd (q.0 (sym of_g ∙ ap (λ (w : SuperVersion). w.descriptor.family) z_new.1 ∙ h.family_is))) (sup n z p);
+        greatest = λ n z p of_g. ⊎_elim
+            (λ z_old. o.greatest n z z_old of_g)
+            (λ z_new. absurd (q.0 (sym of_g ∙ ap (λ (w : SuperVersion). w.descriptor.family) z_new.1 ∙ h.family_is)))
+            (sup n z p);
         ends = o.ends;
       })
       (placed_get a.tops b.tops f top h.tops g t w)
@@ -148,7 +154,7 @@ module _ (a b : Books) (k : Sound a) (f : ℕ) (r : Family) (x : SuperVersion) (
   pub numbers_law : NumbersStand b.files.numbers b.files.captured b.files.next
   numbers_law = ⊎_elim
       (λ q. subst (λ (F : FileRegister). NumbersStand F.numbers F.captured F.next) (sym q) law.numbers)
-      (λ o. numbers-settled f o.number Live a.files b.files o.settled law.numbers not_pending not_grabbed)
+      (λ o. numbers-settled f o.number Live a.files b.files o.settled law.numbers (λ e. live_pending e) (λ e. live_grabbed e))
       h.files
 
   pub metas_law : numbers_of a.metas ≡ captured_numbers b.files.numbers
@@ -165,25 +171,35 @@ module _ (a b : Books) (k : Sound a) (f : ℕ) (r : Family) (x : SuperVersion) (
       (λ o. settled-others f o.number Live a.files b.files o.settled g apart)
       h.files
 
-  pub captured_old : (g n : ℕ) → slice_get b.files.captured g ≡ Some (Some n) → slice_get a.files.captured g ≡ Some (Some n)
+  pub captured_old : (g n : ℕ) → slice_get b.files.captured g ≡ Some (Some n)
+      → slice_get a.files.captured g ≡ Some (Some n)
   captured_old g n e = ⊎_elim
       (λ q. ap (λ (F : FileRegister). slice_get F.captured g) (sym q) ∙ e)
       (λ o. (settled_other f o.number Live a.files b.files o.settled g n e).1)
       h.files
 
-  last_back : (g : ℕ) (m : FileMeta) → IsLastFile b.versions b.tops g m → IsLastFile a.versions a.tops g m ⊎ IsAwaitedFile a.files.captured a.metas g m
+  last_back : (g : ℕ) (m : FileMeta) → IsLastFile b.versions b.tops g m
+      → IsLastFile a.versions a.tops g m ⊎ IsAwaitedFile a.files.captured a.metas g m
   last_back g m w = dite (ℕ_discrete g f)
       (λ q. subst (λ i. IsLastFile a.versions a.tops i m ⊎ IsAwaitedFile a.files.captured a.metas i m) (sym q) (h.lasts m (subst (λ i. IsLastFile b.versions b.tops i m) q w)))
       (λ q.
       let top_at = sym (h.tops.others g q) ∙ w.top_at in
       let t = law.lasts g w.top top_at in
-      let same : w.version ≡ t.version = some (sym w.version_at ∙ grown-old PV a.versions b.versions h.versions w.top.last t.version t.at) in
-      inl (record { top = w.top; top_at = top_at; version = t.version; version_at = t.at; has = subst (λ (z : Version). In m z.files) same w.has }))
+      let same : w.version ≡ t.version =
+      some (sym w.version_at ∙ grown-old PV a.versions b.versions h.versions w.top.last t.version t.at) in
+      inl (record {
+        top = w.top;
+        top_at = top_at;
+        version = t.version;
+        version_at = t.at;
+        has = subst (λ (z : Version). In m z.files) same w.has;
+      }))
 
   pub snapshots_law : SnapshotsStand a.journal b.versions b.files.captured a.metas b.tops a.snapshots
-  snapshots_law = snapshots-kept a (record a { versions = b.versions; files = b.files; tops = b.tops }) law.snapshots (record {
-    journal = continues-itself a.journal;
-    snapshots = refl;
-    lasts = last_back;
-    awaited = λ g m w. inl (record { captured_is = captured_old g m.number w.captured_is; covered = w.covered });
-  })
+  snapshots_law =
+      snapshots-kept a (record a { versions = b.versions; files = b.files; tops = b.tops }) law.snapshots (record {
+        journal = continues-itself a.journal;
+        snapshots = refl;
+        lasts = last_back;
+        awaited = λ g m w. inl (record { captured_is = captured_old g m.number w.captured_is; covered = w.covered });
+      })

@@ -1,43 +1,30 @@
 -- A SuperVersion becomes current: what is Live is named, and what is named is Live.
-use Rattle.std.proofs.Common.{◌≡◌, ◌≢◌, ◌<◌, ◌≤◌, ℕ, suc, ◌+◌, ◌⊎◌, inl, inr, ⊎_elim, true, false, Bool, ◌&&◌, ◌==◌, List, [], ◌∷◌, ◌++◌, length, take, drop, cond, Some, None, refl, sym, ap, ◌∙◌, subst, arith, ne_eqb, length-append}
+use Rattle.std.proofs.Common.{ℕ, ◌+◌, ◌⊎◌, inl, inr, ⊎_elim, List, [], ◌∷◌, ◌++◌, length, Some, sym, ap, ◌∙◌, subst}
 use Rattle.std.specs.Prelude.{slice_get, ◌↔◌}
 use mathlib.Core.Logic.{dite}
 use native.Mathlib.Decide.{ℕ_discrete}
-use Rattle.sv_model.specs.declared.writes.Write.{Write}
 use Rattle.sv_model.specs.declared.records.SuperVersion.{SuperVersion}
-use Rattle.sv_model.specs.declared.records.Descriptor.{Descriptor}
 use Rattle.sv_model.specs.declared.records.Memtable.{Memtable}
 use Rattle.sv_model.specs.declared.records.MemtableList.{MemtableList}
 use Rattle.sv_model.specs.declared.records.Version.{Version}
-use Rattle.sv_model.specs.declared.records.FileMeta.{FileMeta}
 use Rattle.sv_model.specs.declared.records.Family.{Family}
 use Rattle.sv_model.specs.declared.records.Top.{Top}
-use Rattle.sv_model.specs.declared.records.FileStatus.TheVariants.{Pending, Live, Grabbed, Gone}
-use Rattle.sv_model.specs.Journal.{borne_by, of_family}
-use Rattle.sv_model.specs.Lists.{In, total, bit, Every}
+use Rattle.sv_model.specs.declared.records.FileStatus.TheVariants.{Pending, Live}
+use Rattle.sv_model.specs.Lists.{In}
 use Rattle.sv_model.specs.Named.{HasMember, HasFile, numbers_of, IsLive, memtable_live, list_live, version_live, UsesMemtable, UsesList, UsesVersion, HasLast, NamedMemtable, NamedVersion, NamedList, NamedFile}
-use Rattle.sv_model.specs.Registers.{entry, Has, GoesOn, EachEntry}
-use Rattle.sv_model.specs.After.{KeepsSuper, KeepsMemtable, KeepsList, KeepsVersion, KeepsNumber, KeepsFamily, After}
+use Rattle.sv_model.specs.Registers.{GoesOn}
+use Rattle.sv_model.specs.After.{KeepsMemtable, KeepsList, KeepsVersion, KeepsNumber}
 use Rattle.sv_model.specs.Books.{Books, FileRegister}
-use Rattle.sv_model.specs.Families.{is_retired, IsDefault, InRange}
-use Rattle.sv_model.specs.Numbers.{NumbersStand, IsRegistered, captures}
+use Rattle.sv_model.specs.Numbers.{IsRegistered}
 use Rattle.sv_model.specs.Lawful.{Lawful}
-use Rattle.sv_model.specs.Described.{Describes, LastFits, FilesStand, BearsFrom, IsTop}
-use Rattle.sv_model.specs.Steady.{Sound, Steady, IsCurrent, IsListed, IsAwaited}
-use Rattle.sv_model.proofs.Lists.{total-push}
-use Rattle.sv_model.proofs.Registers.{entry-old, entry-new, entry_push, entry_le, goes-same, goes-push, length-change}
-use Rattle.sv_model.proofs.AfterLaws.{continues-itself, super-itself, memtable-itself, list-itself, version-itself, number-itself, family-itself}
-use Rattle.sv_laws.specs.Currents.{Installs, IsNewMemtable, IsNewList, IsNewVersion}
+use Rattle.sv_model.specs.Steady.{Sound}
+use Rattle.sv_model.proofs.Registers.{goes-same}
+use Rattle.sv_model.proofs.AfterLaws.{memtable-itself, list-itself, version-itself, number-itself}
+use Rattle.sv_laws.specs.Installs.{Installs, IsNewMemtable, IsNewList, IsNewVersion}
 use Rattle.sv_laws.proofs.Items.{some, has-old, has-new, has_push}
-use Rattle.sv_laws.proofs.Growing.{grown_entry, grown-old, grown-goes, grown-has, grown-longer, grown-shorter, grown-total, placed_get, placed-goes, get_within, get-some}
-use Rattle.sv_laws.proofs.Settled.{marked-goes, marked-keeps, marked_is, marked-captures, settled-captured, settled-others, settled_other, numbers-settled}
-use Rattle.sv_laws.proofs.StillFits.{last-on, describes-on, awaited-on, reach-on, join-le, join_in}
-
-not_pending : Live ≡ Pending → ⊥
-not_pending e = absurd (cc)
-
-pending_gone : Pending ≡ Gone → ⊥
-pending_gone e = absurd (cc)
+use Rattle.sv_laws.proofs.Growing.{grown_entry, grown-old, grown-goes, grown-has, placed_get}
+use Rattle.sv_laws.proofs.Settled.{marked-goes, marked-keeps, marked_is}
+use Rattle.sv_laws.proofs.Apart.{live_pending, pending_gone}
 
 module _ (a b : Books) (k : Sound a) (f : ℕ) (r : Family) (x : SuperVersion) (h : Installs a b f r x) where
   abbrev S : List SuperVersion
@@ -97,7 +84,11 @@ module _ (a b : Books) (k : Sound a) (f : ℕ) (r : Family) (x : SuperVersion) (
         (λ q. has-new (UsesList l) a.supers x (record { live = h.live; is = sym q.1.is_list }))
         (grown_entry PL a.lists b.lists h.lists l w.it w.at),
     λ w. ⊎_elim
-        (λ o. let t = (law.lists l).1 o in record { it = t.it; at = grown-old PL a.lists b.lists h.lists l t.it t.at; live = t.live })
+        (λ o. let t = (law.lists l).1 o in record {
+          it = t.it;
+          at = grown-old PL a.lists b.lists h.lists l t.it t.at;
+          live = t.live;
+        })
         (λ o. subst (IsLive list_live b.lists) o.is h.list_lives)
         (has_push (UsesList l) a.supers x w),
   )
@@ -111,12 +102,28 @@ module _ (a b : Books) (k : Sound a) (f : ℕ) (r : Family) (x : SuperVersion) (
       let had = h.had w.top (ap (slice_get a.tops) (sym q) ∙ w.on) in
       let t = law.tops w.id had.0 w.family w.top w.at w.on had.1 in
       inl (has-old (UsesVersion v) a.supers x (had.0, t.it, t.at, record { live = t.live; is = t.last_is ∙ w.is })))
-      (λ q. inr (record { id = w.id; family = w.family; top = w.top; at = h.families.others w.id q ∙ w.at; on = h.tops.others w.id q ∙ w.on; stands = w.stands; is = w.is }))
+      (λ q. inr (record {
+        id = w.id;
+        family = w.family;
+        top = w.top;
+        at = h.families.others w.id q ∙ w.at;
+        on = h.tops.others w.id q ∙ w.on;
+        stands = w.stands;
+        is = w.is;
+      }))
 
   last-from : (v : ℕ) → HasLast v b.families b.tops → IsLive version_live b.versions v
   last-from v w = ⊎_elim
       (λ q. subst (IsLive version_live b.versions) (ap (λ (t : Top). t.last) (sym q.1) ∙ w.is) h.version_lives)
-      (λ q. live-v v ((law.versions v).1 (inr (record { id = w.id; family = w.family; top = w.top; at = sym (h.families.others w.id q.0) ∙ w.at; on = q.1; stands = w.stands; is = w.is }))))
+      (λ q. live-v v ((law.versions v).1 (inr (record {
+        id = w.id;
+        family = w.family;
+        top = w.top;
+        at = sym (h.families.others w.id q.0) ∙ w.at;
+        on = q.1;
+        stands = w.stands;
+        is = w.is;
+      }))))
       (placed_get a.tops b.tops f top h.tops w.id w.top w.on)
 
   pub versions_law : (v : ℕ) → IsLive version_live b.versions v ↔ NamedVersion S b.families b.tops v
@@ -133,7 +140,7 @@ module _ (a b : Books) (k : Sound a) (f : ℕ) (r : Family) (x : SuperVersion) (
   live-n : (n : ℕ) → IsRegistered a.files.numbers n Live → IsRegistered b.files.numbers n Live
   live-n n w = ⊎_elim
       (λ q. subst (λ (F : FileRegister). IsRegistered F.numbers n Live) (sym q) w)
-      (λ o. marked-keeps o.number Pending Live a.files.numbers b.files.numbers o.settled.numbers n Live not_pending w)
+      (λ o. marked-keeps o.number Pending Live a.files.numbers b.files.numbers o.settled.numbers n Live (λ e. live_pending e) w)
       h.files
 
   live_n : (n : ℕ) → IsRegistered b.files.numbers n Live → IsRegistered a.files.numbers n Live ⊎ NamedFile b.versions n
@@ -141,13 +148,24 @@ module _ (a b : Books) (k : Sound a) (f : ℕ) (r : Family) (x : SuperVersion) (
       (λ q. inl (subst (λ (F : FileRegister). IsRegistered F.numbers n Live) q w))
       (λ o. ⊎_elim
       (λ e. inl e)
-      (λ e. inr (x.descriptor.version, o.it, o.at, record { live = ap (λ (v : Version). v.live) (some (sym o.at ∙ h.version_lives.at)) ∙ h.version_lives.live; has = subst (λ i. In i (numbers_of o.it.files)) (sym e.0) o.has }))
+      (λ e. inr (
+        x.descriptor.version,
+        o.it,
+        o.at,
+        record {
+          live = ap (λ (v : Version). v.live) (some (sym o.at ∙ h.version_lives.at)) ∙ h.version_lives.live;
+          has = subst (λ i. In i (numbers_of o.it.files)) (sym e.0) o.has;
+        },
+      ))
       (marked_is o.number Pending Live a.files.numbers b.files.numbers o.settled.numbers n Live w))
       h.files
 
   pub files_law : (n : ℕ) → IsRegistered b.files.numbers n Live ↔ NamedFile b.versions n
   files_law n = (
-    λ w. ⊎_elim (λ o. grown-has PV a.versions b.versions h.versions (HasFile n) ((law.files n).0 o)) (λ o. o) (live_n n w),
+    λ w. ⊎_elim
+        (λ o. grown-has PV a.versions b.versions h.versions (HasFile n) ((law.files n).0 o))
+        (λ o. o)
+        (live_n n w),
     λ w. ⊎_elim
         (λ o. live-n n ((law.files n).1 (w.0, w.1, o, w.3)))
         (λ o. o.1.files n w.3.has)

@@ -1,9 +1,8 @@
 -- A SuperVersion becomes current: the books stay sound, and come after those before.
-use Rattle.std.proofs.Common.{◌≡◌, ◌≢◌, ◌<◌, ◌≤◌, ℕ, suc, ◌+◌, ◌⊎◌, inl, inr, ⊎_elim, true, false, Bool, ◌&&◌, ◌==◌, List, [], ◌∷◌, ◌++◌, length, take, drop, cond, Some, None, refl, sym, ap, ◌∙◌, subst, arith, ne_eqb, length-append}
-use Rattle.std.specs.Prelude.{slice_get, ◌↔◌}
+use Rattle.std.proofs.Common.{◌≡◌, ◌≢◌, ◌≤◌, ℕ, suc, ◌+◌, ◌⊎◌, inl, inr, ⊎_elim, true, false, Bool, ◌&&◌, ◌==◌, List, [], ◌∷◌, ◌++◌, length, Some, None, refl, sym, ap, ◌∙◌, subst, arith, length-append}
+use Rattle.std.specs.Prelude.{slice_get}
 use mathlib.Core.Logic.{dite}
 use native.Mathlib.Decide.{ℕ_discrete}
-use Rattle.sv_model.specs.declared.writes.Write.{Write}
 use Rattle.sv_model.specs.declared.records.SuperVersion.{SuperVersion}
 use Rattle.sv_model.specs.declared.records.Descriptor.{Descriptor}
 use Rattle.sv_model.specs.declared.records.Memtable.{Memtable}
@@ -12,28 +11,25 @@ use Rattle.sv_model.specs.declared.records.Version.{Version}
 use Rattle.sv_model.specs.declared.records.FileMeta.{FileMeta}
 use Rattle.sv_model.specs.declared.records.Family.{Family}
 use Rattle.sv_model.specs.declared.records.Top.{Top}
-use Rattle.sv_model.specs.declared.records.FileStatus.TheVariants.{Pending, Live, Grabbed, Gone}
-use Rattle.sv_model.specs.Journal.{borne_by, of_family}
+use Rattle.sv_model.specs.declared.records.FileStatus.TheVariants.{Live}
 use Rattle.sv_model.specs.Lists.{In, total, bit, Every}
-use Rattle.sv_model.specs.Named.{HasMember, HasFile, numbers_of, IsLive, memtable_live, list_live, version_live, UsesMemtable, UsesList, UsesVersion, HasLast, NamedMemtable, NamedVersion}
-use Rattle.sv_model.specs.Registers.{entry, Has, GoesOn, EachEntry}
+use Rattle.sv_model.specs.Registers.{entry, GoesOn}
 use Rattle.sv_model.specs.After.{KeepsSuper, KeepsMemtable, KeepsList, KeepsVersion, KeepsNumber, KeepsFamily, After, KeepsSnapshot}
 use Rattle.sv_model.specs.Books.{Books, FileRegister}
-use Rattle.sv_model.specs.Families.{is_retired, IsDefault, InRange}
-use Rattle.sv_model.specs.Numbers.{NumbersStand, IsRegistered, captures}
+use Rattle.sv_model.specs.Families.{is_retired, InRange}
 use Rattle.sv_model.specs.Lawful.{Lawful}
-use Rattle.sv_model.specs.Described.{Describes, LastFits, FilesStand, BearsFrom, IsTop}
 use Rattle.sv_model.specs.Steady.{Sound, Steady, IsCurrent, IsListed, IsAwaited}
 use Rattle.sv_model.proofs.Lists.{total-push}
 use Rattle.sv_model.proofs.Registers.{entry-old, entry-new, entry_push, entry_le, goes-same, goes-push, length-change}
-use Rattle.sv_model.proofs.AfterLaws.{continues-itself, super-itself, memtable-itself, list-itself, version-itself, number-itself, family-itself, snapshot-itself}
-use Rattle.sv_laws.specs.Currents.{Installs, IsNewMemtable, IsNewList, IsNewVersion}
+use Rattle.sv_model.proofs.AfterLaws.{continues-itself, super-itself, family-itself, snapshot-itself}
+use Rattle.sv_laws.specs.Installs.{Installs, IsNewMemtable, IsNewList, IsNewVersion}
 use Rattle.sv_laws.proofs.Items.{some, none_some}
-use Rattle.sv_laws.proofs.Growing.{grown_entry, grown-old, grown-goes, grown-has, grown-longer, grown-shorter, grown-total, placed_get, placed-goes, get_within, get-some}
-use Rattle.sv_laws.proofs.Settled.{marked-goes, marked-keeps, marked_is, marked-captures, settled-captured, settled-others, settled_other, numbers-settled}
-use Rattle.sv_laws.proofs.StillFits.{last-on, describes-on, awaited-on, reach-on, join-le, join_in}
+use Rattle.sv_laws.proofs.Growing.{grown_entry, grown-old, grown-longer, grown-shorter, grown-total, placed_get, placed-goes, get_within}
+use Rattle.sv_laws.proofs.Settled.{settled-captured}
+use Rattle.sv_laws.proofs.StillFits.{awaited-on, reach-on, join_in}
 use Rattle.sv_laws.proofs.InstallNames.{memtables-on, lists-on, versions-on, numbers-on, memtables_law, lists_law, versions_law, files_law}
 use Rattle.sv_laws.proofs.InstallFits.{descriptors_law, lasts_law, rows_law, tops_law, numbers_law, metas_law, snapshots_law, captured_back, captured_old}
+use Rattle.sv_laws.proofs.InstallPlaces.{places_law, cells_law, fam, distinct_law, default_law, captures_same, holds_same, jobs_same, next_same}
 use Rattle.sv_laws.proofs.OpenFamilies.{current-top}
 use Rattle.sv_laws.proofs.BorneRows.{borne-on}
 
@@ -61,7 +57,15 @@ module _ (a b : Books) (k : Sound a) (f : ℕ) (r : Family) (x : SuperVersion) (
   PV = IsNewVersion b.files.numbers x.descriptor.version
 
   abbrev c : Books
-  c = record a { supers = S; memtables = b.memtables; lists = b.lists; versions = b.versions; files = b.files; families = b.families; tops = b.tops }
+  c = record a {
+    supers = S;
+    memtables = b.memtables;
+    lists = b.lists;
+    versions = b.versions;
+    files = b.files;
+    families = b.families;
+    tops = b.tops;
+  }
 
   law : Lawful a
   law = k.lawful
@@ -81,54 +85,9 @@ module _ (a b : Books) (k : Sound a) (f : ℕ) (r : Family) (x : SuperVersion) (
   gx : (m : FileMeta) → In m a.metas → In m a.metas
   gx m i = i
 
-  sup : (i : ℕ) (s : SuperVersion) → entry S i ≡ Some s → (entry a.supers i ≡ Some s) ⊎ ((i ≡ length a.supers + 1) × (s ≡ x))
+  sup : (i : ℕ) (s : SuperVersion) → entry S i ≡ Some s
+      → (entry a.supers i ≡ Some s) ⊎ ((i ≡ length a.supers + 1) × (s ≡ x))
   sup = entry_push a.supers x
-
-  -- ---- places, cells, families
-
-  places_law : EachEntry (λ n y. y.live ≡ true → (y.place < 256) × EachEntry (λ j z. z.live ≡ true → z.place ≡ y.place → j ≡ n) S) S
-  places_law n y e l = ⊎_elim
-      (λ o. ((law.places n y o l).0, λ j z p zl q. ⊎_elim (λ u. (law.places n y o l).1 j z u zl q) (λ u. absurd (h.room.free n y o l (sym q ∙ ap (λ (w : SuperVersion). w.place) u.1))) (sup j z p)))
-      (λ o. (omega (arith, h.room.within, ap (λ (w : SuperVersion). w.place) o.1), λ j z p zl q. ⊎_elim (λ u. absurd (h.room.free j z u zl (q ∙ ap (λ (w : SuperVersion). w.place) o.1))) (λ u. u.0 ∙ sym o.0) (sup j z p)))
-      (sup n y e)
-
-  mem : (i : ℕ) (m : Memtable) → entry b.memtables i ≡ Some m → (entry a.memtables i ≡ Some m) ⊎ ((i ≡ length a.memtables + 1) × IsNewMemtable a f x.descriptor.active i m)
-  mem = grown_entry PM a.memtables b.memtables h.memtables
-
-  cells_law : EachEntry (λ n y. y.live ≡ true → (y.cell < 64) × EachEntry (λ j z. z.live ≡ true → z.cell ≡ y.cell → j ≡ n) b.memtables) b.memtables
-  cells_law n y e l = ⊎_elim
-      (λ o. ((law.cells n y o l).0, λ j z p zl q. ⊎_elim (λ u. (law.cells n y o l).1 j z u zl q) (λ u. absurd (u.1.room.free n y o l (sym q))) (mem j z p)))
-      (λ o. (o.1.room.within, λ j z p zl q. ⊎_elim (λ u. absurd (o.1.room.free j z u zl q)) (λ u. u.0 ∙ sym o.0) (mem j z p)))
-      (mem n y e)
-
-  fam : (g : ℕ) (y : Family) → slice_get b.families g ≡ Some y → ((g ≡ f) × (y ≡ r)) ⊎ ((g ≢ f) × (slice_get a.families g ≡ Some y))
-  fam = placed_get a.families b.families f r h.families
-
-  distinct_law : (g i : ℕ) (y z : Family) → slice_get b.families g ≡ Some y → slice_get b.families i ≡ Some z → y.dropped ≡ false → z.dropped ≡ false → y.name ≡ z.name → g ≡ i
-  distinct_law g i y z e w l₁ l₂ n = ⊎_elim
-      (λ p. ⊎_elim (λ q. p.0 ∙ sym q.0) (λ q. absurd (h.name_free i z q.0 q.1 l₂ (ap (λ (u : Family). u.name) (sym p.1) ∙ n))) (fam i z w))
-      (λ p. ⊎_elim (λ q. absurd (h.name_free g y p.0 p.1 l₁ (ap (λ (u : Family). u.name) (sym q.1) ∙ sym n))) (λ q. law.distinct g i y z p.1 q.1 l₁ l₂ n) (fam i z w))
-      (fam g y e)
-
-  default_law : IsDefault b.families
-  default_law = dite (ℕ_discrete 0 f)
-      (λ q. record { it = r; at = ap (slice_get b.families) q ∙ h.families.here; name_is = (h.was law.default.it (ap (slice_get a.families) (sym q) ∙ law.default.at)).0 ∙ law.default.name_is; stands = h.stands })
-      (λ q. record { it = law.default.it; at = h.families.others 0 q ∙ law.default.at; name_is = law.default.name_is; stands = law.default.stands })
-
-  captures_same : captures b.files.numbers ≡ captures a.files.numbers
-  captures_same = ⊎_elim
-      (λ q. ap (λ (F : FileRegister). captures F.numbers) q)
-      (λ o. marked-captures o.number Pending Live a.files.numbers b.files.numbers o.settled.numbers)
-      h.files
-
-  holds_same : b.files.holds ≡ a.files.holds
-  holds_same = ⊎_elim (λ q. ap (λ (F : FileRegister). F.holds) q) (λ o. ap (λ (F : FileRegister). F.holds) o.settled.rest) h.files
-
-  jobs_same : b.files.jobs ≡ a.files.jobs
-  jobs_same = ⊎_elim (λ q. ap (λ (F : FileRegister). F.jobs) q) (λ o. ap (λ (F : FileRegister). F.jobs) o.settled.rest) h.files
-
-  next_same : b.files.next ≡ a.files.next
-  next_same = ⊎_elim (λ q. ap (λ (F : FileRegister). F.next) q) (λ o. ap (λ (F : FileRegister). F.next) o.settled.rest) h.files
 
   lawful : Lawful c
   lawful = record {
@@ -145,33 +104,47 @@ module _ (a b : Books) (k : Sound a) (f : ℕ) (r : Family) (x : SuperVersion) (
     metas = metas_law a b k f r x h;
     cuts = law.cuts;
     snapshots = snapshots_law a b k f r x h;
-    places = places_law;
-    cells = cells_law;
-    distinct = distinct_law;
-    default = default_law;
+    places = places_law a b k f r x h;
+    cells = cells_law a b k f r x h;
+    distinct = distinct_law a b k f r x h;
+    default = default_law a b k f r x h;
     limits = record {
       families = h.few_families;
       supers = omega (arith, h.room.few, length-append a.supers (x ∷ []));
-      live_supers = omega (arith, h.room.few_live, total-push (λ (s : SuperVersion). bit s.live) a.supers x, bit_le x.live);
-      live_memtables = grown-total PM a.memtables b.memtables h.memtables (λ (m : Memtable). bit m.live) 64 (λ m. bit_le m.live) law.limits.live_memtables (λ n y p. p.room.few);
-      captured = omega (arith, law.limits.captured, captures_same);
+      live_supers = omega
+          (arith, h.room.few_live, total-push (λ (s : SuperVersion). bit s.live) a.supers x, bit_le x.live);
+      live_memtables = grown-total PM a.memtables b.memtables h.memtables (λ (m : Memtable). bit m.live) 64
+          (λ m. bit_le m.live) law.limits.live_memtables (λ n y p. p.room.few);
+      captured = omega (arith, law.limits.captured, (captures_same a b k f r x h));
       writes = law.limits.writes;
-      holds = subst (Every (λ i. i ≤ 255)) (sym holds_same) law.limits.holds;
-      jobs = omega (arith, law.limits.jobs, jobs_same);
-      options = λ g y e. ⊎_elim (λ q. subst (λ (u : Family). InRange u.options) (sym q.1) h.in_range) (λ q. law.limits.options g y q.1) (fam g y e);
+      holds = subst (Every (λ i. i ≤ 255)) (sym (holds_same a b k f r x h)) law.limits.holds;
+      jobs = omega (arith, law.limits.jobs, (jobs_same a b k f r x h));
+      options = λ g y e. ⊎_elim
+          (λ q. subst (λ (u : Family). InRange u.options) (sym q.1) h.in_range)
+          (λ q. law.limits.options g y q.1)
+          (fam a b k f r x h g y e);
     };
   }
 
   -- ---- what the state keeps beside
 
-  current_back : (g s : ℕ) (y : SuperVersion) → IsCurrent b.tops S g s y → ((g ≡ f) × (y ≡ x)) ⊎ ((g ≢ f) × IsCurrent a.tops a.supers g s y)
+  current_back : (g s : ℕ) (y : SuperVersion) → IsCurrent b.tops S g s y
+      → ((g ≡ f) × (y ≡ x)) ⊎ ((g ≢ f) × IsCurrent a.tops a.supers g s y)
   current_back g s y cur = ⊎_elim
       (λ q.
       let s_is : s ≡ length a.supers + 1 = some (sym cur.is ∙ ap (λ (z : Top). z.current) q.1) in
       inl (q.0, some (sym cur.has ∙ entry-new a.supers x s s_is)))
       (λ q.
       let t = current-top a law g s cur.top q.1 cur.is in
-      inr (q.0, record { top = cur.top; at = q.1; is = cur.is; has = t.2.at ∙ (sym (entry-old a.supers (x ∷ []) s t.2.it t.2.at) ∙ cur.has) }))
+      inr (
+        q.0,
+        record {
+          top = cur.top;
+          at = q.1;
+          is = cur.is;
+          has = t.2.at ∙ (sym (entry-old a.supers (x ∷ []) s t.2.it t.2.at) ∙ cur.has);
+        },
+      ))
       (placed_get a.tops b.tops f top h.tops g cur.top cur.at)
 
   listed-on : (m : ℕ) → IsListed a.memtables a.tops a.supers m → IsListed b.memtables b.tops S m
@@ -187,13 +160,16 @@ module _ (a b : Books) (k : Sound a) (f : ℕ) (r : Family) (x : SuperVersion) (
         (current_back w.it.family s y cur);
   }
 
-  listed_law : (l m : ℕ) (z : MemtableList) → entry b.lists l ≡ Some z → In m z.members → IsListed b.memtables b.tops S m
+  listed_law : (l m : ℕ) (z : MemtableList) → entry b.lists l ≡ Some z → In m z.members
+      → IsListed b.memtables b.tops S m
   listed_law l m z e i = ⊎_elim
       (λ o. listed-on m (k.steady.listed l m z o i))
       (λ o.
       let t = h.describes in
       let z_is : z ≡ t.list = some (sym e ∙ ap (entry b.lists) o.1.is_list ∙ t.list_at) in
-      let w = join_in a.journal b.memtables d.family t.list.members t.middle d.base m t.members (subst (λ (u : MemtableList). In m u.members) z_is i) in
+      let w =
+      join_in a.journal b.memtables d.family t.list.members t.middle d.base m t.members
+      (subst (λ (u : MemtableList). In m u.members) z_is i) in
       record {
         it = w.0;
         at = w.1;
@@ -204,7 +180,8 @@ module _ (a b : Books) (k : Sound a) (f : ℕ) (r : Family) (x : SuperVersion) (
       })
       (grown_entry PL a.lists b.lists h.lists l z e)
 
-  awaited_law : (g n s : ℕ) (y : SuperVersion) → slice_get b.files.captured g ≡ Some (Some n) → IsCurrent b.tops S g s y → IsAwaited a.journal b.memtables b.lists b.versions a.metas n y.descriptor
+  awaited_law : (g n s : ℕ) (y : SuperVersion) → slice_get b.files.captured g ≡ Some (Some n)
+      → IsCurrent b.tops S g s y → IsAwaited a.journal b.memtables b.lists b.versions a.metas n y.descriptor
   awaited_law g n s y e cur = ⊎_elim
       (λ q. subst (λ (w : SuperVersion). IsAwaited a.journal b.memtables b.lists b.versions a.metas n w.descriptor) (sym q.1) (h.awaited n (ap (slice_get b.files.captured) (sym q.0) ∙ e)))
       (λ q. awaited-on a.files.numbers b.files.numbers gn a.metas a.metas gx a.journal a.memtables b.memtables a.lists b.lists a.versions b.versions gm gl gv n y.descriptor (k.steady.awaited g n s y (sym (captured_back a b k f r x h g q.0) ∙ e) q.1))
@@ -212,7 +189,9 @@ module _ (a b : Books) (k : Sound a) (f : ℕ) (r : Family) (x : SuperVersion) (
 
   steady : Steady c
   steady = record {
-    borne = λ i w e. borne-on (length a.memtables) (length a.families) (length b.memtables) (length b.families) w (grown-longer PM a.memtables b.memtables h.memtables) h.more (k.steady.borne i w e);
+    borne = λ i w e.
+        borne-on (length a.memtables) (length a.families) (length b.memtables) (length b.families) w
+        (grown-longer PM a.memtables b.memtables h.memtables) h.more (k.steady.borne i w e);
     supers_of = λ n s e. ⊎_elim
         (λ o. omega (arith, k.steady.supers_of n s o, h.more))
         (λ o. omega (arith, get_within b.families f r h.families.here, ap (λ (w : SuperVersion). w.descriptor.family) o.1, h.family_is))
@@ -223,14 +202,34 @@ module _ (a b : Books) (k : Sound a) (f : ℕ) (r : Family) (x : SuperVersion) (
     retired = λ g y t ye te q. ⊎_elim
         (λ o. absurd (let z : false ≡ true = ap (λ (b : Bool). b && (total bit r.handles == 0)) (sym h.stands) ∙ ap is_retired (sym o.1) ∙ q in cc))
         (λ o. k.steady.retired g y t o.1 (sym (h.tops.others g o.0) ∙ te) q)
-        (fam g y ye);
-    busy = λ g n e. dite (ℕ_discrete g f) (λ q. omega (arith, q, get_within b.families f r h.families.here)) (λ q. omega (arith, k.steady.busy g n (sym (captured_back a b k f r x h g q) ∙ e), h.more));
-    captured = ⊎_elim (λ q. ap (λ (F : FileRegister). length F.captured) q) (λ o. ap length (settled-captured f o.number Live a.files b.files o.settled) ∙ length-change a.files.captured (suc f) None) h.files ∙ k.steady.captured;
-    holds = ap length holds_same ∙ k.steady.holds;
-    handles = λ g y e. ⊎_elim (λ q. ap (λ (u : Family). length u.handles) q.1 ∙ h.handles) (λ q. k.steady.handles g y q.1) (fam g y e);
-    memtables_made = omega (arith, k.steady.memtables_made, grown-shorter PM a.memtables b.memtables h.memtables, length-append a.supers (x ∷ []));
-    lists_made = omega (arith, k.steady.lists_made, grown-shorter PL a.lists b.lists h.lists, length-append a.supers (x ∷ []));
-    versions_made = omega (arith, k.steady.versions_made, grown-shorter PV a.versions b.versions h.versions, length-append a.supers (x ∷ []));
+        (fam a b k f r x h g y ye);
+    busy = λ g n e. dite (ℕ_discrete g f)
+        (λ q. omega (arith, q, get_within b.families f r h.families.here))
+        (λ q. omega (arith, k.steady.busy g n (sym (captured_back a b k f r x h g q) ∙ e), h.more));
+    captured = ⊎_elim
+        (λ q. ap (λ (F : FileRegister). length F.captured) q)
+        (λ o. ap length (settled-captured f o.number Live a.files b.files o.settled) ∙ length-change a.files.captured (suc f) None)
+        h.files
+        ∙ k.steady.captured;
+    holds = ap length (holds_same a b k f r x h) ∙ k.steady.holds;
+    handles = λ g y e. ⊎_elim
+        (λ q. ap (λ (u : Family). length u.handles) q.1 ∙ h.handles)
+        (λ q. k.steady.handles g y q.1)
+        (fam a b k f r x h g y e);
+    memtables_made = omega (
+      arith,
+      k.steady.memtables_made,
+      grown-shorter PM a.memtables b.memtables h.memtables,
+      length-append a.supers (x ∷ []),
+    );
+    lists_made = omega
+        (arith, k.steady.lists_made, grown-shorter PL a.lists b.lists h.lists, length-append a.supers (x ∷ []));
+    versions_made = omega (
+      arith,
+      k.steady.versions_made,
+      grown-shorter PV a.versions b.versions h.versions,
+      length-append a.supers (x ∷ []),
+    );
   }
 
   after : After a c
@@ -242,21 +241,34 @@ module _ (a b : Books) (k : Sound a) (f : ℕ) (r : Family) (x : SuperVersion) (
     versions = gv;
     numbers = gn;
     metas = continues-itself a.metas;
-    next = omega (arith, next_same);
-    families = placed-goes a.families b.families f r h.families KeepsFamily family-itself (λ y e. let t = h.was y e in record { name = t.0; dropped = λ dr. absurd (let q : false ≡ true = sym t.1 ∙ dr in cc) });
+    next = omega (arith, (next_same a b k f r x h));
+    families = placed-goes a.families b.families f r h.families KeepsFamily family-itself
+        (λ y e. let t = h.was y e in record {
+          name = t.0;
+          dropped = λ dr. absurd (let q : false ≡ true = sym t.1 ∙ dr in cc);
+        });
     tops = λ g t e. dite (ℕ_discrete g f)
         (λ q. (
           top,
           ap (slice_get b.tops) q ∙ h.tops.here,
           record {
             reach = h.reach t (ap (slice_get a.tops) (sym q) ∙ e);
-            ended = λ _ none. absurd (let had = h.had t (ap (slice_get a.tops) (sym q) ∙ e) in none_some had.0 (sym none ∙ had.1));
+            ended = λ _ none.
+                absurd (let had = h.had t (ap (slice_get a.tops) (sym q) ∙ e) in none_some had.0 (sym none ∙ had.1));
           },
         ))
-        (λ q. (t, h.tops.others g q ∙ e, record { reach = reach-on a.versions b.versions gv t.last; ended = λ _ none. none }));
+        (λ q. (
+          t,
+          h.tops.others g q ∙ e,
+          record {
+            reach = reach-on a.versions b.versions gv t.last;
+            ended = λ _ none. none;
+          },
+        ));
     rows = λ l m z e i. refl;
     snapshots = goes-same KeepsSnapshot a.snapshots snapshot-itself;
   }
 
   pub installed : Sound b × After a b
-  installed = subst (λ (z : Books). Sound z × After a z) (sym h.rest) (record { lawful = lawful; steady = steady }, after)
+  installed =
+      subst (λ (z : Books). Sound z × After a z) (sym h.rest) (record { lawful = lawful; steady = steady }, after)

@@ -25,7 +25,8 @@ entry_none (suc n) y e = get_none n y e
 pub every_none : {A : Type 0} (P : A → Type 0) → Every P []
 every_none P i x e = absurd (get_none i x e)
 
-pub get_push : {A : Type 0} (l : List A) (y : A) (n : ℕ) (x : A) → slice_get (l ++ y ∷ []) n ≡ Some x → (slice_get l n ≡ Some x) ⊎ (x ≡ y)
+pub get_push : {A : Type 0} (l : List A) (y : A) (n : ℕ) (x : A) → slice_get (l ++ y ∷ []) n ≡ Some x
+    → (slice_get l n ≡ Some x) ⊎ (x ≡ y)
 get_push [] y zero x is = inr (sym (some is))
 get_push [] y (suc n) x is = absurd (cc)
 get_push (z ∷ l) y zero x is = inl is
@@ -33,9 +34,6 @@ get_push (z ∷ l) y (suc n) x is = get_push l y n x is
 
 pub every_push : {A : Type 0} (P : A → Type 0) (l : List A) (y : A) → Every P l → P y → Every P (l ++ y ∷ [])
 every_push P l y all here i x e = ⊎_elim (λ h. all i x h) (λ h. subst P (sym h) here) (get_push l y i x e)
-
-pub every_map : {A : Type 0} (P Q : A → Type 0) (l : List A) → ((x : A) → P x → Q x) → Every P l → Every Q l
-every_map P Q l f all i x e = f x (all i x e)
 
 pub in-cons : {A : Type 0} (m k : A) (l : List A) → In m (k ∷ l) → (m ≡ k) ⊎ In m l
 in-cons m k l i = by i.at i.is
@@ -52,7 +50,11 @@ in-none m i = let q : None ≡ Some m = i.is in absurd (cc)
 
 pub in-left : {A : Type 0} (m : A) (xs ys : List A) → In m xs → In m (xs ++ ys)
 in-left m [] ys i = absurd (in-none m i)
-in-left m (x ∷ xs) ys i = ⊎_elim (λ q. record { at = 0; is = ap Some (sym q) }) (λ j. in-suc m x (xs ++ ys) (in-left m xs ys j)) (in-cons m x xs i)
+in-left m (x ∷ xs) ys i =
+    ⊎_elim
+    (λ q. record { at = 0; is = ap Some (sym q) })
+    (λ j. in-suc m x (xs ++ ys) (in-left m xs ys j))
+    (in-cons m x xs i)
 
 pub in-right : {A : Type 0} (m : A) (xs ys : List A) → In m ys → In m (xs ++ ys)
 in-right m [] ys i = i
@@ -60,7 +62,11 @@ in-right m (x ∷ xs) ys i = in-suc m x (xs ++ ys) (in-right m xs ys i)
 
 pub in_append : {A : Type 0} (m : A) (xs ys : List A) → In m (xs ++ ys) → In m xs ⊎ In m ys
 in_append m [] ys i = inr i
-in_append m (x ∷ xs) ys i = ⊎_elim (λ q. inl (record { at = 0; is = ap Some (sym q) })) (λ j. ⊎_elim (λ o. inl (in-suc m x xs o)) (λ o. inr o) (in_append m xs ys j)) (in-cons m x (xs ++ ys) i)
+in_append m (x ∷ xs) ys i =
+    ⊎_elim
+    (λ q. inl (record { at = 0; is = ap Some (sym q) }))
+    (λ j. ⊎_elim (λ o. inl (in-suc m x xs o)) (λ o. inr o) (in_append m xs ys j))
+    (in-cons m x (xs ++ ys) i)
 
 pub none_some : {A : Type 0} (n : A) → None ≡ Some n → ⊥
 none_some n e = absurd (cc)

@@ -1,3 +1,4 @@
+pub mod Apart
 pub mod Items
 pub mod Growing
 pub mod Registers
@@ -9,8 +10,11 @@ pub mod StillFits
 pub mod OpenFamilies
 pub mod EndsLaws
 pub mod SnapshotLaws
+pub mod CutLaws
+pub mod GatheredCuts
 pub mod InstallNames
 pub mod InstallFits
+pub mod InstallPlaces
 pub mod Installed
 pub mod OptionSet
 pub mod Switched
@@ -22,4 +26,16 @@ pub mod Written
 pub mod FamilyChanges
 pub mod FileChanges
 pub mod Cleaned
+pub mod WhatGoes
 pub mod Purged
+pub mod Grabs
+pub mod Captured
+pub mod GivenUp
+pub mod MidstLaws
+pub mod CleanupBegins
+pub mod Needs
+pub mod Rooms
+pub mod Opened
+pub mod Snapped
+pub mod Handles
+pub mod Kept

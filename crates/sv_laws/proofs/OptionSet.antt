@@ -1,25 +1,15 @@
 -- A family's options are set.
-use Rattle.std.proofs.Common.{ℕ, ◌+◌, inl, inr, ⊎_elim, true, List, [], ◌∷◌, ◌++◌, length, refl, sym, ap, ◌∙◌, subst, arith, set, length-set}
-use mathlib.Core.List.{append_assoc}
-use Rattle.sv_model.specs.declared.writes.Write.{Write}
+use Rattle.std.proofs.Common.{ℕ, inl, inr, [], ◌∷◌, ◌++◌, refl, sym, ◌∙◌, subst, arith, set, length-set}
 use Rattle.sv_model.specs.declared.settings.Options.{Options}
 use Rattle.sv_model.specs.declared.records.SuperVersion.{SuperVersion}
-use Rattle.sv_model.specs.declared.records.Memtable.{Memtable}
-use Rattle.sv_model.specs.declared.records.MemtableList.{MemtableList}
-use Rattle.sv_model.specs.Journal.{of_family}
 use Rattle.sv_model.specs.Books.{Books}
-use Rattle.sv_model.specs.After.{KeepsMemtable, After}
-use Rattle.sv_model.specs.Described.{MembersJoin}
+use Rattle.sv_model.specs.After.{After}
 use Rattle.sv_model.specs.Steady.{Sound}
-use Rattle.sv_model.proofs.Registers.{entry-new, entry_le, goes-push}
-use Rattle.sv_model.proofs.AfterLaws.{memtable-itself}
-use Rattle.sv_laws.specs.Installs.{IsOptionSet, IsSwitched}
-use Rattle.sv_laws.specs.Currents.{next_top, live_super}
-use Rattle.sv_laws.proofs.Items.{some, in_append, in-cons, in-none}
-use Rattle.sv_laws.proofs.StillFits.{join-on, join-append}
+use Rattle.sv_laws.specs.NewCurrents.{IsOptionSet}
+use Rattle.sv_laws.specs.Installs.{next_top, live_super}
 use Rattle.sv_laws.proofs.Installed.{installed}
-use Rattle.sv_laws.proofs.Growing.{placed-set, placed-same}
-use Rattle.sv_laws.proofs.OpenFamilies.{of_f, options_are, ends-at, says, active-lives, list-lives, version-lives, member, was, had, in-range, name-free, last-same, paired-set, fresh-mem}
+use Rattle.sv_laws.proofs.Growing.{placed-set}
+use Rattle.sv_laws.proofs.OpenFamilies.{of_f, ends-at, says, active-lives, list-lives, version-lives, was, had, name-free, last-same, paired-set}
 use Rattle.sv_laws.proofs.OpenFamilies.{last-still, has-handles}
 
 module _ (a b : Books) (k : Sound a) (f : ℕ) where
@@ -34,7 +24,8 @@ module _ (a b : Books) (k : Sound a) (f : ℕ) where
         families = set a.families f (record p.family { options = o });
         tops = set a.tops f (next_top a c.descriptor.version);
       } in
-      subst (λ (z : Books). Sound z × After a z) (sym h.is) (installed a e k f (record p.family { options = o }) x (record {
+      subst (λ (z : Books). Sound z × After a z) (sym h.is)
+      (installed a e k f (record p.family { options = o }) x (record {
         rest = refl;
         family_is = of_f a k f h.s c p;
         live = refl;
@@ -46,15 +37,42 @@ module _ (a b : Books) (k : Sound a) (f : ℕ) where
         active_live = active-lives a k f h.s c p;
         list_lives = list-lives a k f h.s c p;
         version_lives = version-lives a k f h.s c p;
-        describes = record { active = d.active; active_at = d.active_at; active_family = d.active_family; base = d.base; within = d.within; list = d.list; list_at = d.list_at; version = d.version; version_at = d.version_at; middle = d.middle; files = d.files; members = d.members };
+        describes = record {
+          active = d.active;
+          active_at = d.active_at;
+          active_family = d.active_family;
+          base = d.base;
+          within = d.within;
+          list = d.list;
+          list_at = d.list_at;
+          version = d.version;
+          version_at = d.version_at;
+          middle = d.middle;
+          files = d.files;
+          members = d.members;
+        };
         ends = ends-at a k f h.s c p;
-        awaited = λ n q. let w = k.steady.awaited f n h.s c q p.current in record { file = w.file; covered = w.covered; number_is = w.number_is; some = w.some; list = w.list; list_at = w.list_at; version = w.version; version_at = w.version_at; fits = w.fits };
-        lasts = λ file w. inl (last-still a k f h.s c p (set a.tops f (next_top a c.descriptor.version)) (placed-set a.tops f p.current.top (next_top a c.descriptor.version) p.current.at).here file w);
+        awaited = λ n q. let w = k.steady.awaited f n h.s c q p.current in record {
+          file = w.file;
+          covered = w.covered;
+          number_is = w.number_is;
+          some = w.some;
+          list = w.list;
+          list_at = w.list_at;
+          version = w.version;
+          version_at = w.version_at;
+          fits = w.fits;
+        };
+        lasts = λ file w.
+            inl
+            (last-still a k f h.s c p (set a.tops f (next_top a c.descriptor.version)) (placed-set a.tops f p.current.top (next_top a c.descriptor.version) p.current.at).here file w);
         families = placed-set a.families f p.family (record p.family { options = o }) p.family_at;
         tops = placed-set a.tops f p.current.top (next_top a c.descriptor.version) p.current.at;
-        paired = paired-set a k f h.s c p (next_top a c.descriptor.version) ∙ sym (length-set a.families f (record p.family { options = o }));
+        paired = paired-set a k f h.s c p (next_top a c.descriptor.version)
+            ∙ sym (length-set a.families f (record p.family { options = o }));
         more = omega (arith, length-set a.families f (record p.family { options = o }));
-        few_families = omega (arith, length-set a.families f (record p.family { options = o }), k.lawful.limits.families);
+        few_families = omega
+            (arith, length-set a.families f (record p.family { options = o }), k.lawful.limits.families);
         stands = p.stands;
         options_are = refl;
         in_range = h.in_range;

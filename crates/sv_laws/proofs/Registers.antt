@@ -13,7 +13,8 @@ pub entry-some : {A : Type 0} (l : List A) (n : ℕ) → 0 < n → n ≤ length 
 entry-some l zero p q = absurd (omega arith)
 entry-some l (suc n) p q = get-some l n (omega arith)
 
-pub goes-back : {A : Type 0} (R : A → A → Type 0) (a b : List A) → GoesOn R a b → length b ≡ length a → (n : ℕ) (y : A) → entry b n ≡ Some y → (x : A) × (entry a n ≡ Some x) × R x y
+pub goes-back : {A : Type 0} (R : A → A → Type 0) (a b : List A) → GoesOn R a b → length b ≡ length a
+    → (n : ℕ) (y : A) → entry b n ≡ Some y → (x : A) × (entry a n ≡ Some x) × R x y
 goes-back R a b g q n y e =
     let h = entry_le b n y e in
     let t = entry-some a n h.0 (omega (arith, h.1, q)) in
@@ -22,11 +23,16 @@ goes-back R a b g q n y e =
 
 -- a holder that names nothing once it is changed
 pub has-shrink : {A : Type 0} (P : A → Type 0) (l : List A) (n : ℕ) (y : A) → (P y → ⊥) → Has P (change l n y) → Has P l
-has-shrink P l n y none h = ⊎_elim (λ q. absurd (none (subst P q.1 h.3))) (λ q. (h.0, h.1, q.1, h.3)) (entry_change l n h.0 y h.1 h.2)
+has-shrink P l n y none h =
+    ⊎_elim (λ q. absurd (none (subst P q.1 h.3))) (λ q. (h.0, h.1, q.1, h.3)) (entry_change l n h.0 y h.1 h.2)
 
 -- the other holders still name
-pub has-keep : {A : Type 0} (P : A → Type 0) (l : List A) (n : ℕ) (x y : A) → entry l n ≡ Some x → Has P l → Has P (change l n y) ⊎ P x
-has-keep P l n x y e h = dite (ℕ_discrete h.0 n) (λ q. inr (subst P (some (sym h.2 ∙ ap (entry l) q ∙ e)) h.3)) (λ q. inl (h.0, h.1, entry-else l n h.0 y q ∙ h.2, h.3))
+pub has-keep : {A : Type 0} (P : A → Type 0) (l : List A) (n : ℕ) (x y : A) → entry l n ≡ Some x → Has P l
+    → Has P (change l n y) ⊎ P x
+has-keep P l n x y e h =
+    dite (ℕ_discrete h.0 n)
+    (λ q. inr (subst P (some (sym h.2 ∙ ap (entry l) q ∙ e)) h.3))
+    (λ q. inl (h.0, h.1, entry-else l n h.0 y q ∙ h.2, h.3))
 
 pub live-back : (b c : Bool) → (b ≡ false → c ≡ false) → c ≡ true → b ≡ true
 live-back true c h e = refl
@@ -37,7 +43,8 @@ goes-rest R x y a b g zero z e = absurd (cc)
 goes-rest R x y a b g (suc n) z e = g (suc (suc n)) z e
 
 -- sums over records that are related
-pub total-le : {A : Type 0} (R : A → A → Type 0) (w : A → ℕ) → ((x y : A) → R x y → w y ≤ w x) → (a b : List A) → length b ≡ length a → GoesOn R a b → total w b ≤ total w a
+pub total-le : {A : Type 0} (R : A → A → Type 0) (w : A → ℕ) → ((x y : A) → R x y → w y ≤ w x) → (a b : List A)
+    → length b ≡ length a → GoesOn R a b → total w b ≤ total w a
 total-le R w le [] [] q g = omega arith
 total-le R w le [] (y ∷ b) q g = absurd (omega arith)
 total-le R w le (x ∷ a) [] q g = absurd (omega arith)
@@ -46,7 +53,8 @@ total-le R w le (x ∷ a) (y ∷ b) q g =
     let one : w y ≤ w x = le x y (subst (R x) (sym (some t.1)) t.2) in
     omega (arith, one, total-le R w le a b (omega arith) (goes-rest R x y a b g))
 
-pub total-same : {A : Type 0} (R : A → A → Type 0) (w : A → ℕ) → ((x y : A) → R x y → w y ≡ w x) → (a b : List A) → length b ≡ length a → GoesOn R a b → total w b ≡ total w a
+pub total-same : {A : Type 0} (R : A → A → Type 0) (w : A → ℕ) → ((x y : A) → R x y → w y ≡ w x) → (a b : List A)
+    → length b ≡ length a → GoesOn R a b → total w b ≡ total w a
 total-same R w eq [] [] q g = refl
 total-same R w eq [] (y ∷ b) q g = absurd (omega arith)
 total-same R w eq (x ∷ a) [] q g = absurd (omega arith)

@@ -1,9 +1,8 @@
 -- The active memtable of a family is frozen.
 use Rattle.sv_model.specs.Named.{IsLiveMemtable}
-use Rattle.std.proofs.Common.{ℕ, ◌+◌, inl, inr, ⊎_elim, true, List, [], ◌∷◌, ◌++◌, length, refl, sym, ap, ◌∙◌, subst, arith, set, length-set}
+use Rattle.std.proofs.Common.{ℕ, ◌+◌, inl, inr, ⊎_elim, true, List, [], ◌∷◌, ◌++◌, length, refl, sym, ap, ◌∙◌, subst, arith, set}
 use mathlib.Core.List.{append_assoc}
 use Rattle.sv_model.specs.declared.writes.Write.{Write}
-use Rattle.sv_model.specs.declared.settings.Options.{Options}
 use Rattle.sv_model.specs.declared.records.SuperVersion.{SuperVersion}
 use Rattle.sv_model.specs.declared.records.Memtable.{Memtable}
 use Rattle.sv_model.specs.declared.records.MemtableList.{MemtableList}
@@ -14,13 +13,13 @@ use Rattle.sv_model.specs.Described.{MembersJoin}
 use Rattle.sv_model.specs.Steady.{Sound}
 use Rattle.sv_model.proofs.Registers.{entry-new, entry_le, goes-push}
 use Rattle.sv_model.proofs.AfterLaws.{memtable-itself}
-use Rattle.sv_laws.specs.Installs.{IsOptionSet, IsSwitched}
-use Rattle.sv_laws.specs.Currents.{next_top, live_super}
+use Rattle.sv_laws.specs.NewCurrents.{IsSwitched}
+use Rattle.sv_laws.specs.Installs.{next_top, live_super}
 use Rattle.sv_laws.proofs.Items.{some, in_append, in-cons, in-none}
 use Rattle.sv_laws.proofs.StillFits.{join-on, join-append}
 use Rattle.sv_laws.proofs.Installed.{installed}
 use Rattle.sv_laws.proofs.Growing.{placed-set, placed-same}
-use Rattle.sv_laws.proofs.OpenFamilies.{of_f, options_are, ends-at, says, active-lives, list-lives, version-lives, member, was, had, in-range, name-free, last-same, paired-set, fresh-mem}
+use Rattle.sv_laws.proofs.OpenFamilies.{of_f, options_are, ends-at, says, active-lives, version-lives, member, was, had, in-range, name-free, last-same, paired-set, fresh-mem}
 use Rattle.sv_laws.proofs.OpenFamilies.{last-still, has-handles}
 
 module _ (a b : Books) (k : Sound a) (f : ℕ) where
@@ -31,7 +30,9 @@ module _ (a b : Books) (k : Sound a) (f : ℕ) where
       let d = says a k f h.s c p in
       let n = length (of_family f a.journal) in
       let of = of_f a k f h.s c p in
-      let x : SuperVersion = live_super (record c.descriptor { active = length a.memtables + 1; list = length a.lists + 1; base = n }) h.place in
+      let x : SuperVersion =
+      live_super (record c.descriptor { active = length a.memtables + 1; list = length a.lists + 1; base = n })
+      h.place in
       let y : Memtable = record { family = f; first = n; cell = h.cell; live = true } in
       let z : MemtableList = record { members = h.list.members ++ c.descriptor.active ∷ []; live = true } in
       let e : Books = record a {
@@ -40,15 +41,31 @@ module _ (a b : Books) (k : Sound a) (f : ℕ) where
         lists = a.lists ++ z ∷ [];
         tops = set a.tops f (next_top a c.descriptor.version);
       } in
-      let old : MembersJoin a.journal a.memtables c.descriptor.family d.middle h.list.members c.descriptor.base = subst (λ (u : MemtableList). MembersJoin a.journal a.memtables c.descriptor.family d.middle u.members c.descriptor.base) (some (sym d.list_at ∙ h.list_at)) d.members in
-      let last : MembersJoin a.journal a.memtables c.descriptor.family c.descriptor.base (c.descriptor.active ∷ []) n = (record { it = d.active; at = d.active_at; family_is = d.active_family; first_is = sym d.base; some = h.row }, ends-at a k f h.s c p) in
-      let all = join-append a.journal a.memtables c.descriptor.family h.list.members (c.descriptor.active ∷ []) d.middle c.descriptor.base n old last in
+      let old : MembersJoin a.journal a.memtables c.descriptor.family d.middle h.list.members c.descriptor.base =
+      subst
+      (λ (u : MemtableList). MembersJoin a.journal a.memtables c.descriptor.family d.middle u.members c.descriptor.base)
+      (some (sym d.list_at ∙ h.list_at)) d.members in
+      let last : MembersJoin a.journal a.memtables c.descriptor.family c.descriptor.base (c.descriptor.active ∷ []) n =
+      (record { it = d.active; at = d.active_at; family_is = d.active_family; first_is = sym d.base; some = h.row }, ends-at a k f h.s c p) in
+      let all =
+      join-append a.journal a.memtables c.descriptor.family h.list.members (c.descriptor.active ∷ []) d.middle
+      c.descriptor.base n old last in
       subst (λ (u : Books). Sound u × After a u) (sym h.is) (installed a e k f p.family x (record {
         rest = refl;
         family_is = of;
         live = refl;
         room = h.room;
-        memtables = inr (y, refl, record { is_active = refl; live = refl; family_is = refl; first_is = refl; room = h.cell_room });
+        memtables = inr (
+          y,
+          refl,
+          record {
+            is_active = refl;
+            live = refl;
+            family_is = refl;
+            first_is = refl;
+            room = h.cell_room;
+          },
+        );
         lists = inr (
           z,
           refl,
@@ -81,7 +98,9 @@ module _ (a b : Books) (k : Sound a) (f : ℕ) where
           version_at = d.version_at;
           middle = d.middle;
           files = d.files;
-          members = join-on a.journal a.memtables (a.memtables ++ y ∷ []) (goes-push KeepsMemtable a.memtables y memtable-itself) c.descriptor.family (h.list.members ++ c.descriptor.active ∷ []) d.middle n all;
+          members = join-on a.journal a.memtables (a.memtables ++ y ∷ [])
+              (goes-push KeepsMemtable a.memtables y memtable-itself) c.descriptor.family
+              (h.list.members ++ c.descriptor.active ∷ []) d.middle n all;
         };
         ends = omega (arith, ap (λ (l : List Write). length l) (fresh-mem a k f h.s c p));
         awaited = λ i q. let w = k.steady.awaited f i h.s c q p.current in record {
@@ -99,13 +118,20 @@ module _ (a b : Books) (k : Sound a) (f : ℕ) where
                 above = u.above;
                 front = u.front;
                 back = u.back ++ c.descriptor.active ∷ [];
-                parts = ap (λ (l : MemtableList). l.members ++ c.descriptor.active ∷ []) (some (sym h.list_at ∙ w.list_at)) ∙ ap (λ l. l ++ c.descriptor.active ∷ []) u.parts ∙ append_assoc u.front u.back (c.descriptor.active ∷ []);
-                joins = join-on a.journal a.memtables (a.memtables ++ y ∷ []) (goes-push KeepsMemtable a.memtables y memtable-itself) c.descriptor.family u.front w.file.from w.file.to u.joins;
+                parts = ap (λ (l : MemtableList). l.members ++ c.descriptor.active ∷ [])
+                    (some (sym h.list_at ∙ w.list_at))
+                    ∙ ap (λ l. l ++ c.descriptor.active ∷ []) u.parts
+                    ∙ append_assoc u.front u.back (c.descriptor.active ∷ []);
+                joins = join-on a.journal a.memtables (a.memtables ++ y ∷ [])
+                    (goes-push KeepsMemtable a.memtables y memtable-itself) c.descriptor.family u.front w.file.from
+                    w.file.to u.joins;
               }))
               (λ u. inr u)
               w.fits;
         };
-        lasts = λ file w. inl (last-still a k f h.s c p (set a.tops f (next_top a c.descriptor.version)) (placed-set a.tops f p.current.top (next_top a c.descriptor.version) p.current.at).here file w);
+        lasts = λ file w.
+            inl
+            (last-still a k f h.s c p (set a.tops f (next_top a c.descriptor.version)) (placed-set a.tops f p.current.top (next_top a c.descriptor.version) p.current.at).here file w);
         families = placed-same a.families f p.family p.family_at;
         tops = placed-set a.tops f p.current.top (next_top a c.descriptor.version) p.current.at;
         paired = paired-set a k f h.s c p (next_top a c.descriptor.version);

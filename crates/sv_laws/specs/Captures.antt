@@ -1,5 +1,5 @@
 -- A file is captured: the number of a flush or a compaction that begins; and one is given up.
-use Rattle.std.specs.Prelude.{◌≡◌, ◌<◌, ◌≤◌, ◌+◌, ◌++◌, ◌∷◌, ◌⊎◌, ◌↔◌, ℕ, true, false, List, [], Some, None, length, slice_get, slice_set}
+use Rattle.std.specs.Prelude.{◌≡◌, ◌<◌, ◌≤◌, ◌+◌, ◌++◌, ◌∷◌, ◌⊎◌, ◌↔◌, ℕ, true, false, [], Some, None, length, slice_get, slice_set}
 use Rattle.sv_model.specs.declared.records.SuperVersion.{SuperVersion}
 use Rattle.sv_model.specs.declared.records.MemtableList.{MemtableList}
 use Rattle.sv_model.specs.declared.records.Version.{Version}
@@ -13,11 +13,10 @@ use Rattle.sv_model.specs.Registers.{entry, GoesOn}
 use Rattle.sv_model.specs.After.{Continues, KeepsNumber}
 use Rattle.sv_model.specs.Books.{Books}
 use Rattle.sv_model.specs.Named.{numbers_of}
-use Rattle.sv_model.specs.Numbers.{NumbersStand, IsRegistered, captures, captured_numbers}
+use Rattle.sv_model.specs.Numbers.{NumbersStand, IsRegistered, captures, captured_numbers, IsSettled}
 use Rattle.sv_model.specs.Snapshots.{IsAwaitedFile}
 use Rattle.sv_model.specs.Steady.{IsCurrent, IsAwaited}
-use Rattle.sv_laws.specs.Settling.{IsSettled}
-use Rattle.sv_laws.specs.Currents.{IsOpen}
+use Rattle.sv_laws.specs.Installs.{IsOpen}
 use Rattle.sv_laws.specs.Snapping.{HasLiveCuts, IsClearOfLive}
 
 -- Only file numbers, what they cover, holds and jobs changed, and each law of them stands. The same numbers are Live.
@@ -35,9 +34,12 @@ pub record ChangesFiles (a b : Books) : Type 0 where
   pub jobs : b.files.jobs ≤ 32
   pub families : length b.files.captured ≡ 16
   pub busy : (f n : ℕ) → slice_get b.files.captured f ≡ Some (Some n) → f < length a.families
-  pub covers : (f n : ℕ) (m : FileMeta) → slice_get b.files.captured f ≡ Some (Some n) → In m b.metas → m.number ≡ n → m.to ≤ length (of_family f a.journal)
-  pub awaited : (f n s : ℕ) (x : SuperVersion) → slice_get b.files.captured f ≡ Some (Some n) → IsCurrent a.tops a.supers f s x → IsAwaited a.journal a.memtables a.lists a.versions b.metas n x.descriptor
-  pub clear : (f : ℕ) (file : FileMeta) → IsAwaitedFile b.files.captured b.metas f file → IsAwaitedFile a.files.captured a.metas f file ⊎ IsClearOfLive a.journal a.snapshots f file
+  pub covers : (f n : ℕ) (m : FileMeta) → slice_get b.files.captured f ≡ Some (Some n) → In m b.metas → m.number ≡ n
+      → m.to ≤ length (of_family f a.journal)
+  pub awaited : (f n s : ℕ) (x : SuperVersion) → slice_get b.files.captured f ≡ Some (Some n)
+      → IsCurrent a.tops a.supers f s x → IsAwaited a.journal a.memtables a.lists a.versions b.metas n x.descriptor
+  pub clear : (f : ℕ) (file : FileMeta) → IsAwaitedFile b.files.captured b.metas f file
+      → IsAwaitedFile a.files.captured a.metas f file ⊎ IsClearOfLive a.journal a.snapshots f file
   pub is : b ≡ record a { files = b.files; metas = b.metas }
 
 -- The next number is captured for the family, to cover what the file says and to keep what Live snapshots need.

@@ -38,7 +38,13 @@ pub record IsCleaned (a b : Books) (s : ℕ) (x : SuperVersion) : Type 0 where
   pub lists : Ends KeepsList list_live (NamedList (without a.supers s x)) a.lists b.lists
   pub versions : Ends KeepsVersion version_live (NamedVersion (without a.supers s x) a.families a.tops) a.versions b.versions
   pub numbers : EndsFiles (NamedFile b.versions) a.files.numbers b.files.numbers
-  pub is : b ≡ record a { supers = without a.supers s x; memtables = b.memtables; lists = b.lists; versions = b.versions; files = record a.files { numbers = b.files.numbers } }
+  pub is : b ≡ record a {
+    supers = without a.supers s x;
+    memtables = b.memtables;
+    lists = b.lists;
+    versions = b.versions;
+    files = record a.files { numbers = b.files.numbers };
+  }
 
 -- the cell of a memtable that went
 pub record Went (old new : List Memtable) (cell : ℕ) : Type 0 where

@@ -58,10 +58,13 @@ pub record IsRetired (a b : Books) (f lane : ℕ) : Type 0 where
   pub on : slice_get a.tops f ≡ Some top
   pub s : ℕ
   pub current : top.current ≡ Some s
-  pub is : b ≡ record a { families = slice_set a.families f (released it lane); tops = slice_set a.tops f (record top { current = None }) }
+  pub is : b ≡ record a {
+    families = slice_set a.families f (released it lane);
+    tops = slice_set a.tops f (record top { current = None });
+  }
 
 -- At the close: a family that is not dropped has no current any more. Its last Version stays named.
-pub record IsEnded (a b : Books) (f : ℕ) : Type 0 where
+pub record IsCurrentEnded (a b : Books) (f : ℕ) : Type 0 where
   pub it : Family
   pub at : slice_get a.families f ≡ Some it
   pub stands : it.dropped ≡ false

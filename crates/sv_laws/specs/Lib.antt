@@ -1,11 +1,11 @@
 pub mod Captures
+pub mod Changes
 pub mod Cleaning
-pub mod Currents
 pub mod Families
 pub mod Growing
 pub mod Installs
 pub mod Midst
+pub mod NewCurrents
 pub mod Purges
-pub mod Settling
 pub mod Snapping
 pub mod Writes

@@ -25,7 +25,9 @@ pub record IsStray (a b : Books) (n : ℕ) : Type 0 where
   pub new : registered n a.files.numbers ≡ 0
   pub below : n < a.files.next
   pub low : (f k : ℕ) → slice_get a.files.captured f ≡ Some (Some k) → n < k
-  pub is : b ≡ record a { files = record a.files { numbers = a.files.numbers ++ record { number = n; status = Grabbed; family = None } ∷ [] } }
+  pub is : b ≡ record a {
+    files = record a.files { numbers = a.files.numbers ++ record { number = n; status = Grabbed; family = None } ∷ [] };
+  }
 
 -- Holds and jobs changed.
 pub record ChangesHolds (a b : Books) : Type 0 where

@@ -1,10 +1,10 @@
 -- Snapshots are taken and released, and what a file keeps for them.
-use Rattle.std.specs.Prelude.{◌≡◌, ◌<◌, ◌++◌, ◌∷◌, ◌⊎◌, ℕ, true, false, List, [], Some, length}
+use Rattle.std.specs.Prelude.{◌≡◌, ◌<◌, ◌≤◌, ◌++◌, ◌∷◌, ◌⊎◌, ℕ, true, false, List, [], Some, length}
 use Rattle.sv_model.specs.declared.writes.Write.{Write}
 use Rattle.sv_model.specs.declared.records.FileMeta.{FileMeta}
 use Rattle.sv_model.specs.declared.records.Snapshot.{Snapshot}
 use Rattle.sv_model.specs.Lists.{In, bit, total}
-use Rattle.sv_model.specs.Flat.{AreCuts}
+use Rattle.sv_model.specs.Flat.{AreCuts, CutsFrom}
 use Rattle.sv_model.specs.Registers.{entry, change, Has, EachEntry}
 use Rattle.sv_model.specs.Snapshots.{cut_of, IsClear, IsLastFile, IsAwaitedFile}
 use Rattle.sv_model.specs.After.{Continues}
@@ -34,8 +34,10 @@ pub record HasLiveCuts (journal : List Write) (snapshots : List Snapshot) (famil
 pub record KeepsCuts (a b : Books) : Type 0 where
   pub journal : Continues a.journal b.journal
   pub snapshots : b.snapshots ≡ a.snapshots
-  pub lasts : (f : ℕ) (file : FileMeta) → IsLastFile b.versions b.tops f file → IsLastFile a.versions a.tops f file ⊎ IsAwaitedFile a.files.captured a.metas f file
-  pub awaited : (f : ℕ) (file : FileMeta) → IsAwaitedFile b.files.captured b.metas f file → IsAwaitedFile a.files.captured a.metas f file ⊎ IsClearOfLive b.journal b.snapshots f file
+  pub lasts : (f : ℕ) (file : FileMeta) → IsLastFile b.versions b.tops f file
+      → IsLastFile a.versions a.tops f file ⊎ IsAwaitedFile a.files.captured a.metas f file
+  pub awaited : (f : ℕ) (file : FileMeta) → IsAwaitedFile b.files.captured b.metas f file
+      → IsAwaitedFile a.files.captured a.metas f file ⊎ IsClearOfLive b.journal b.snapshots f file
 
 -- a snapshot more, which reads what all writes so far leave
 pub record IsSnapped (a b : Books) : Type 0 where
@@ -48,3 +50,19 @@ pub record IsUnsnapped (a b : Books) (n : ℕ) (x : Snapshot) : Type 0 where
   pub at : entry a.snapshots n ≡ Some x
   pub live : x.live ≡ true
   pub is : b ≡ record a { snapshots = change a.snapshots n (record x { live = false }) }
+
+-- Snapshots were taken in the order of their places in the journal.
+abbrev pub Ascend : List Snapshot → Type 0
+Ascend snapshots = (n m : ℕ) (s t : Snapshot) → entry snapshots n ≡ Some s → entry snapshots m ≡ Some t → n ≤ m → s.at ≤ t.at
+
+-- The cuts gathered from the snapshots seen so far, which were taken one after the other: those of the Live ones that
+-- lie inside the range, of which `last` is the greatest, or the range's beginning where there is none.
+pub record AreGathered (journal : List Write) (family from to last : ℕ) (seen : List Snapshot) (cuts : List ℕ) : Type 0 where
+  pub ascend : CutsFrom from cuts to
+  pub begins : from ≤ last
+  pub greatest : (cut : ℕ) → In cut cuts → cut ≤ last
+  pub last_is : (last ≡ from) ⊎ In last cuts
+  pub live : (cut : ℕ) → In cut cuts → Has (IsCutOf journal family cut) seen
+  pub clear : EachEntry (λ n s. s.live ≡ true
+      → In (cut_of journal s.at family) cuts ⊎ ((to ≤ cut_of journal s.at family) ⊎ (cut_of journal s.at family ≤ from))) seen
+  pub few : length cuts ≤ total (λ s. bit s.live) seen

@@ -1,10 +1,10 @@
 -- A write is accepted.
-use Rattle.std.specs.Prelude.{◌≡◌, ◌<◌, ◌++◌, ◌∷◌, ℕ, List, [], length}
+use Rattle.std.specs.Prelude.{◌≡◌, ◌<◌, ◌++◌, ◌∷◌, ℕ, [], length}
 use Rattle.sv_model.specs.declared.writes.Write.{Write}
 use Rattle.sv_model.specs.declared.records.SuperVersion.{SuperVersion}
 use Rattle.sv_model.specs.Journal.{borne_by}
 use Rattle.sv_model.specs.Books.{Books}
-use Rattle.sv_laws.specs.Currents.{IsOpen}
+use Rattle.sv_laws.specs.Installs.{IsOpen}
 
 -- The write, which a lane makes and the active memtable of the family's current bears, is the last of the journal.
 pub record IsWritten (a b : Books) (f : ℕ) (w : Write) : Type 0 where

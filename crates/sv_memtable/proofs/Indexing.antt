@@ -1,5 +1,5 @@
 -- The index of an open memtable: it stays one when a row is added, and what it leads to are the key's newest rows.
-use Rattle.std.proofs.Common.{◌≡◌, ◌<◌, ◌≤◌, ℕ, zero, suc, ◌+◌, Bool, true, false, cond, ◌&&◌, nat_le, List, [], ◌∷◌, ◌++◌, length, take, map, get_or, Option, Some, None, refl, sym, ap, subst, ◌∙◌, arith, append_assoc}
+use Rattle.std.proofs.Common.{◌≡◌, ◌<◌, ◌≤◌, ℕ, zero, suc, ◌+◌, Bool, true, false, cond, nat_le, List, [], ◌∷◌, ◌++◌, length, take, map, get_or, Option, Some, None, refl, sym, ap, subst, ◌∙◌, arith}
 use Rattle.std.specs.Prelude.{find, reverse, slice_get, option_map, option_and_then, unwrap_or, IfSome}
 use Rattle.std.specs.List.{filter, All, AllByRecursion}
 use Rattle.std.specs.List.Sorted.{IsNonDecreasing}
@@ -20,7 +20,7 @@ use Rattle.sv_model.specs.Registers.{entry}
 use Rattle.sv_model.proofs.KeyOrder.{same_eq}
 use Rattle.sv_memtable.specs.declared.cells.TheConstants.{MAX_ROWS}
 use Rattle.sv_memtable.specs.Index.{numbers_of_key, numbers_at, IsIndexed, Notes, LeadsAsBefore}
-use Rattle.sv_memtable.proofs.NumberedRows.{find_last, find-reverse, if_last, last_of_chosen, is_upto, newest_upto, newest_row-last, Bears, all_bear, LeadsBack, all_lead_back, numbered-push}
+use Rattle.sv_memtable.proofs.NumberedRows.{find_last, find-reverse, if_last, last_of_chosen, is_upto, newest_among, Bears, all_bear, LeadsBack, all_lead_back, numbered-push}
 
 -- ---- a row is added
 
@@ -117,11 +117,11 @@ pub found_upto : (rows : List Row) (key : List ℕ) (upto : ℕ) → option_and_
 found_upto rows key upto =
     let ns = numbered_after 0 rows in
     ap (option_and_then (entry rows)) (
-        find-reverse (λ n. nat_le n upto) (numbers_of_key key rows)
-        ∙ last_of_chosen number_of (λ n. nat_le n upto) (λ n. same_key key (key_of_numbered n)) ns)
+    find-reverse (λ n. nat_le n upto) (numbers_of_key key rows)
+    ∙ last_of_chosen number_of (λ n. nat_le n upto) (λ n. same_key key (key_of_numbered n)) ns)
     ∙ back rows (find_last (is_upto key upto) ns) (if_last (LeadsBack rows) (is_upto key upto) ns (all_lead_back rows))
-    ∙ newest_upto key 0 upto upto rows (omega arith)
-    ∙ sym (newest_row-last key (take upto rows))
+    ∙ sym (ap (option_map (λ (n : Numbered). n.row)) (find-reverse (is_upto key upto) ns))
+    ∙ newest_among key upto rows
 
 -- the last number of a key is that of a row
 pub last_within : (rows : List Row) (key older : List ℕ) (number : ℕ) → numbers_of_key key rows ≡ older ++ number ∷ [] → IsOfRow rows number
@@ -136,7 +136,7 @@ found_last rows key older number e =
     let first : reverse (numbers_of_key key rows) ≡ number ∷ reverse older = ap reverse e ∙ reverse-append older (number ∷ []) in
     let passes : nat_le number (length rows) ≡ true = le-leb number (length rows) is.1 in
     sym (ap (λ l. option_and_then (entry rows) (find (λ n. nat_le n (length rows)) l)) first
-         ∙ ap (λ b. option_and_then (entry rows) (cond b (Some number) (find (λ n. nat_le n (length rows)) (reverse older)))) passes)
+    ∙ ap (λ b. option_and_then (entry rows) (cond b (Some number) (find (λ n. nat_le n (length rows)) (reverse older)))) passes)
     ∙ found_upto rows key (length rows)
     ∙ ap (newest_row key) (take-length rows)
 

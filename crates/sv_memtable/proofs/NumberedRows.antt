@@ -1,10 +1,9 @@
 -- Rows with their numbers: each number leads back to its row, and the newest row of a key among the first rows is the
 -- last of that key whose number is not above their count.
-use Rattle.std.proofs.Common.{◌≡◌, ◌<◌, ◌≤◌, ℕ, zero, suc, ◌+◌, Bool, true, false, cond, ◌&&◌, nat_le, List, [], ◌∷◌, ◌++◌, length, take, map, Option, Some, None, refl, sym, ap, subst, ◌∙◌, arith}
-use Rattle.std.specs.Prelude.{find, reverse, slice_get, option_map, option_and_then, IfSome}
-use Rattle.std.specs.Option.{option_or, option_to_list}
+use Rattle.std.proofs.Common.{◌≡◌, ℕ, suc, ◌+◌, ◌-◌, Bool, true, false, cond, ◌&&◌, nat_le, List, [], ◌∷◌, ◌++◌, length, take, map, Option, Some, None, refl, sym, ap, ◌∙◌, arith}
+use Rattle.std.specs.Prelude.{find, reverse, slice_get, option_map, IfSome}
+use Rattle.std.specs.Option.{option_or}
 use Rattle.std.specs.List.{filter, AllByRecursion}
-use Rattle.std.proofs.lemmas.Bool.{and_left, and_right, le-leb, lt-leb}
 use Rattle.std.proofs.lemmas.List.{reverse-append}
 use Rattle.std.proofs.lemmas.List.Folds.{find-append}
 use Rattle.sv_model.specs.declared.writes.Row.{Row}
@@ -13,6 +12,7 @@ use Rattle.sv_model.specs.Flat.{numbered_after}
 use Rattle.sv_model.specs.Journal.{same_key, newest_row}
 use Rattle.sv_model.specs.Order.{key_of_numbered, number_of}
 use Rattle.sv_model.specs.Registers.{entry}
+use Rattle.sv_model.proofs.FlatReads.{newest_upto}
 
 -- ---- the last that passes
 
@@ -26,14 +26,6 @@ find-reverse test (x ∷ xs) =
     ap (find test) (reverse-append (x ∷ []) xs)
     ∙ find-append test (reverse xs) (x ∷ [])
     ∙ ap (λ o. option_or o (cond (test x) (Some x) None)) (find-reverse test xs)
-
-map_or : {A B : Type 0} (f : A → B) (a b : Option A) → option_map f (option_or a b) ≡ option_or (option_map f a) (option_map f b)
-map_or f None b = refl
-map_or f (Some x) b = refl
-
-map_cond : {A B : Type 0} (f : A → B) (b : Bool) (x : A) → option_map f (cond b (Some x) None) ≡ cond b (Some (f x)) None
-map_cond f true x = refl
-map_cond f false x = refl
 
 -- what holds of all holds of the last that passes
 one_or : {A : Type 0} (P : A → Type 0) (b : Bool) (x : A) (o : Option A) → P x → IfSome o P → IfSome (option_or o (cond b (Some x) None)) P
@@ -72,28 +64,11 @@ last_of_chosen f test chosen (x ∷ xs) =
 abbrev pub is_upto : List ℕ → ℕ → Numbered → Bool
 is_upto key cut n = same_key key (key_of_numbered n) && nat_le (number_of n) cut
 
-none_yet : (key : List ℕ) (before cut : ℕ) (rows : List Row) → cut ≤ before → find_last (is_upto key cut) (numbered_after before rows) ≡ None
-none_yet key before cut [] h = refl
-none_yet key before cut (row ∷ rows) h =
-    let n : Numbered = record { number = suc before; row = row } in
-    let above : is_upto key cut n ≡ false = and_right (same_key key row.key) (nat_le (suc before) cut) (lt-leb (suc before) cut (omega arith)) in
-    ap (λ o. option_or o (cond (is_upto key cut n) (Some n) None)) (none_yet key (suc before) cut rows (omega arith))
-    ∙ ap (λ b. cond b (Some n) None) above
-
-and_true : (a b : Bool) → b ≡ true → (a && b) ≡ a
-and_true true b h = h
-and_true false b h = refl
-
-pub newest_upto : (key : List ℕ) (before upto cut : ℕ) (rows : List Row) → cut ≡ before + upto → option_map (λ (n : Numbered). n.row) (find_last (is_upto key cut) (numbered_after before rows)) ≡ find_last (λ (r : Row). same_key key r.key) (take upto rows)
-newest_upto key before zero cut rows e = ap (option_map (λ (n : Numbered). n.row)) (none_yet key before cut rows (omega arith))
-newest_upto key before (suc upto) cut [] e = refl
-newest_upto key before (suc upto) cut (row ∷ rows) e =
-    let n : Numbered = record { number = suc before; row = row } in
-    let seen : is_upto key cut n ≡ same_key key row.key = and_true (same_key key row.key) (nat_le (suc before) cut) (le-leb (suc before) cut (omega arith)) in
-    let later = newest_upto key (suc before) upto cut rows (omega arith) in
-    map_or (λ (n : Numbered). n.row) (find_last (is_upto key cut) (numbered_after (suc before) rows)) (cond (is_upto key cut n) (Some n) None)
-    ∙ ap (λ o. option_or o (option_map (λ (n : Numbered). n.row) (cond (is_upto key cut n) (Some n) None))) later
-    ∙ ap (λ o. option_or (find_last (λ (r : Row). same_key key r.key) (take upto rows)) o) (map_cond (λ (n : Numbered). n.row) (is_upto key cut n) n ∙ ap (λ b. cond b (Some row) None) seen)
+-- the newest row of a key among the first rows
+pub newest_among : (key : List ℕ) (cut : ℕ) (rows : List Row) → option_map (λ (n : Numbered). n.row) (find (is_upto key cut) (reverse (numbered_after 0 rows))) ≡ newest_row key (take cut rows)
+newest_among key cut rows =
+    let all : cut - 0 ≡ cut = omega arith in
+    newest_upto key cut 0 rows ∙ ap (λ n. newest_row key (take n rows)) all
 
 -- ---- each number leads back to its row
 
@@ -125,10 +100,3 @@ all_lead_back rows = leads_back rows (numbered_after 0 rows) (all_bear 0 rows)
 pub numbered-push : (before n : ℕ) (rows : List Row) (row : Row) → n ≡ before + length rows → numbered_after before (rows ++ row ∷ []) ≡ numbered_after before rows ++ record { number = suc n; row = row } ∷ []
 numbered-push before n [] row e = let same : before ≡ n = omega arith in ap (λ m. record { number = suc m; row = row } ∷ []) same
 numbered-push before n (r ∷ rows) row e = ap (λ l. record { number = suc before; row = r } ∷ l) (numbered-push (suc before) n rows row (omega arith))
-
-pub length-numbered : (before : ℕ) (rows : List Row) → length (numbered_after before rows) ≡ length rows
-length-numbered before [] = refl
-length-numbered before (row ∷ rows) = ap suc (length-numbered (suc before) rows)
-
-pub newest_row-last : (key : List ℕ) (rows : List Row) → newest_row key rows ≡ find_last (λ (r : Row). same_key key r.key) rows
-newest_row-last key rows = find-reverse (λ (r : Row). same_key key r.key) rows

@@ -1,5 +1,5 @@
 -- Numbers of which those that pass a test stand first: the last that passes.
-use Rattle.std.proofs.Common.{◌≡◌, ◌<◌, ◌≤◌, ℕ, zero, suc, ◌+◌, ◌-◌, Bool, true, false, cond, nat_le, List, [], ◌∷◌, ◌++◌, length, take, get_or, Option, Some, None, refl, sym, ap, subst, ◌∙◌, arith}
+use Rattle.std.proofs.Common.{◌≡◌, ◌<◌, ◌≤◌, ℕ, zero, suc, ◌-◌, Bool, true, false, cond, nat_le, List, [], ◌∷◌, ◌++◌, length, take, get_or, Some, None, refl, sym, ap, subst, ◌∙◌, arith}
 use Rattle.std.specs.Prelude.{find, reverse}
 use Rattle.std.specs.Option.{option_or}
 use Rattle.std.specs.List.{AllWithin}
@@ -38,7 +38,7 @@ found_none older newest upto at lt none part =
 pub found_at : (older : List ℕ) (newest upto at d : ℕ) → upto < newest → (at ≡ 0 → ⊥) → at ≤ length older → IsPartitionPoint (λ y. nat_le y upto ≡ true) (λ y. nat_le y upto ≡ false) older at → Some (get_or older (at - 1) d) ≡ find (λ n. nat_le n upto) (reverse (older ++ newest ∷ []))
 found_at older newest upto at d lt some bound part =
     sym (skipped older newest upto lt
-         ∙ last_at (λ n. nat_le n upto) older (at - 1) d (omega arith) (λ k e low less. part.0 k e low (omega arith)) (λ k e low less. part.1 k e (omega arith) less))
+    ∙ last_at (λ n. nat_le n upto) older (at - 1) d (omega arith) (λ k e low less. part.0 k e low (omega arith)) (λ k e low less. part.1 k e (omega arith) less))
 
 pub older_rise : (older : List ℕ) (newest : ℕ) → IsNonDecreasing (older ++ newest ∷ []) → IsNonDecreasing older
 older_rise older newest up =

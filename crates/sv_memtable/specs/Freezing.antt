@@ -1,5 +1,5 @@
 -- A frozen memtable against the rows that were added to it.
-use Rattle.std.specs.Prelude.{◌≡◌, ◌==◌, ℕ, zero, suc, List, [], ◌∷◌, ◌++◌, Option, find, length, option_map}
+use Rattle.std.specs.Prelude.{◌==◌, ℕ, zero, suc, List, [], ◌++◌, Option, find, length, option_map}
 use Rattle.std.specs.Option.{option_to_list}
 use Rattle.std.specs.List.Sorted.{IsPermutation}
 use Rattle.sv_model.specs.declared.writes.Row.{Row}

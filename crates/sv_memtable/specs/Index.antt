@@ -1,5 +1,5 @@
 -- The index of an open memtable, which has of each key the numbers of its rows.
-use Rattle.std.specs.Prelude.{◌≡◌, ◌≤◌, ℕ, suc, cond, List, [], ◌∷◌, ◌++◌, Option, length, map, slice_get, option_map, unwrap_or}
+use Rattle.std.specs.Prelude.{◌≡◌, ◌≤◌, ℕ, cond, List, [], ◌∷◌, ◌++◌, Option, length, map, option_map, unwrap_or}
 use Rattle.std.specs.List.{filter}
 use Rattle.std.specs.Ordering.{nat_cmp}
 use Rattle.std.specs.Cmp.Lexicographic.{slice_cmp}

@@ -1,4 +1,4 @@
-//! Tests of memtables: what is added and found, and what a frozen one keeps.
+//! Tests of memtables: what is added and found, at each cut too, and what a frozen one keeps.
 #![tactic(auto)]
 
 #[cfg(test)]

@@ -1,4 +1,5 @@
 pub mod AfterLaws
+pub mod Ascending
 pub mod FlatEnds
 pub mod FlatFirsts
 pub mod FlatKeys
@@ -7,10 +8,13 @@ pub mod FlatRanges
 pub mod FlatReads
 pub mod FlatText
 pub mod Freed
+pub mod HolderLaws
 pub mod KeyOrder
 pub mod Lists
 pub mod Lowering
+pub mod NumberLaws
 pub mod PlaceLaws
+pub mod PlacedLaws
 pub mod Ranges
 pub mod Refusing
 pub mod Registers

@@ -1,5 +1,5 @@
 -- The loops that count the items of a holder once more, or once less, one after the other.
-use Rattle.std.proofs.Common.{◌≡◌, ℕ, ◌+◌, ◌-◌, ◌<◌, ◌≤◌, List, [], ◌∷◌, ◌++◌, length, get_or, take, drop, arith, refl, sym, ap, subst, ◌∙◌, append_assoc, append-nil, take-append-drop}
+use Rattle.std.proofs.Common.{◌≡◌, ℕ, zero, suc, ◌+◌, ◌-◌, ◌<◌, ◌≤◌, List, [], ◌∷◌, ◌++◌, length, get_or, take, drop, arith, refl, sym, ap, subst, ◌∙◌, append_assoc, append-nil, take-append-drop}
 use Rattle.std.proofs.lemmas.List.{take_more, drop_more, take_all, drop_all, length_push}
 use Rattle.sv_model.specs.Lists.{IsChosen, same, times}
 use Rattle.sv_model.proofs.Lists.{total-append, total-push, same_here}
@@ -88,3 +88,10 @@ lowering_end first now xs given i enough done so =
       counts = counts;
       chosen = subst (λ l. IsChosen (λ m. now m ≡ 0) xs l) (sym (e ∙ freed-same others now xs (λ m. let c = counts m in omega arith))) (freed_chosen now xs);
     }
+
+-- fewer items have no more
+pub times-take-le : (m : ℕ) (xs : List ℕ) (i n : ℕ) → i ≤ n → times m (take i xs) ≤ times m (take n xs)
+times-take-le m xs zero n below = omega arith
+times-take-le m [] (suc i) n below = omega arith
+times-take-le m (x ∷ xs) (suc i) zero below = absurd (omega arith)
+times-take-le m (x ∷ xs) (suc i) (suc n) below = omega (arith, times-take-le m xs i n (omega arith))

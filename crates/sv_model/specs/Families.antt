@@ -65,7 +65,8 @@ pub record IsDefault (families : List Family) : Type 0 where
 
 -- at most one of the families is so
 abbrev pub AtMostOne : (Family → Type 0) → List Family → Type 0
-AtMostOne Is families = (f g : ℕ) (x y : Family) → slice_get families f ≡ Some x → slice_get families g ≡ Some y → Is x → Is y → f ≡ g
+AtMostOne Is families =
+    (f g : ℕ) (x y : Family) → slice_get families f ≡ Some x → slice_get families g ≡ Some y → Is x → Is y → f ≡ g
 
 -- each of the families is so
 abbrev pub Each : (Family → Type 0) → List Family → Type 0

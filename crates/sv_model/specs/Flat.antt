@@ -80,3 +80,7 @@ pub record AreCuts (from to : ℕ) (cuts : List ℕ) : Type 0 where
 -- A flat of this range tells what was there at the cut: it is one of the cuts, or does not lie inside the range.
 abbrev pub IsClearIn : ℕ → ℕ → List ℕ → ℕ → Type 0
 IsClearIn from to cuts cut = In cut cuts ⊎ ((to ≤ cut) ⊎ (cut ≤ from))
+
+-- what a file says of what lies below it where something may, and where it keeps no cut
+abbrev pub plain : Bottom
+plain = record { last = false; cuts = [] }

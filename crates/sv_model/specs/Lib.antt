@@ -8,6 +8,7 @@ pub mod Faults
 pub mod Files
 pub mod Flat
 pub mod HeldFiles
+pub mod Holders
 pub mod Journal
 pub mod Lawful
 pub mod Lists

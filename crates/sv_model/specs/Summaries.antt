@@ -1,5 +1,5 @@
 -- The numbers of a report, counted in the registers.
-use Rattle.std.specs.Prelude.{ℕ, ◌+◌, Bool, true, false, cond, not, ◌&&◌, List, [], ◌∷◌, is_some, is_none, length, map, filter, count_by}
+use Rattle.std.specs.Prelude.{ℕ, ◌+◌, nat_lt, Bool, true, false, cond, not, ◌&&◌, List, [], ◌∷◌, is_some, is_none, length, map, filter, count_by}
 use Rattle.sv_model.specs.declared.writes.Write.{Write}
 use Rattle.sv_model.specs.declared.records.Version.{Version}
 use Rattle.sv_model.specs.declared.records.Family.{Family}
@@ -38,9 +38,23 @@ abbrev pub is_obsolete : FileStatus → Bool
 is_obsolete Obsolete = true
 is_obsolete status = false
 
--- the numbers that are still to be removed, in the order in which they were registered
+-- a number before the first that is above it
+abbrev pub place_number : ℕ → List ℕ → List ℕ
+place_number x [] = x ∷ []
+place_number x (y ∷ ys) = cond (nat_lt x y) (x ∷ y ∷ ys) (y ∷ place_number x ys)
+
+-- the numbers in ascending order
+abbrev pub ascending : List ℕ → List ℕ
+ascending [] = []
+ascending (x ∷ l) = place_number x (ascending l)
+
+-- the Obsolete numbers, in the order in which they were registered
+abbrev pub obsolete_registered : List RegisteredFile → List ℕ
+obsolete_registered numbers = map (λ f. f.number) (filter (λ f. is_obsolete f.status) numbers)
+
+-- the numbers that are still to be removed, ascending
 abbrev pub obsolete_of : List RegisteredFile → List ℕ
-obsolete_of numbers = map (λ f. f.number) (filter (λ f. is_obsolete f.status) numbers)
+obsolete_of numbers = ascending (obsolete_registered numbers)
 
 -- what was made
 abbrev pub made_of : Books → Totals

@@ -4,11 +4,13 @@
 mod counts;
 mod cuts;
 mod faults;
+mod holders;
 mod ids;
 mod item_list;
 mod keys;
 mod names;
-mod places;
+mod placed;
+mod raising;
 mod records;
 mod refusals;
 mod reports;
@@ -22,11 +24,12 @@ mod writes;
 pub use counts::Counts;
 pub use cuts::{Bottom, Cuts, MAX_CUTS};
 pub use faults::OutOfMemory;
+pub use holders::{Holder, HolderRegister, MAX_HOLDERS};
 pub use ids::{FamilyId, FileNumber, ListId, MemId, Pack, SvSerial, VersionId};
 pub use item_list::Items;
 pub use keys::{GREATEST_KEY, Key};
 pub use names::{GREATEST_NAME, Name};
-pub use places::least_free;
+pub use placed::{MAX_PLACED, Placed, PlacedRegister};
 pub use records::{
     Descriptor, Family, FileMeta, FileStatus, Memtable, MemtableList, RegisteredFile, Snapshot,
     SuperVersion, Top, Version,

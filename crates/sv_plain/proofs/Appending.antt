@@ -32,6 +32,7 @@ appended b reach base serial place list version active cell its w s family lane 
         own = All-append (IsOwn (length b.memtables)) b.journal (w ∷ []) own (all_one (IsOwn (length b.memtables)) w (record { family = family; lane = lane; mem = omega (arith, mem) }));
         versions = s.store.versions;
         families = s.store.families;
+        free = s.store.free;
       };
       tops = s.tops;
       supers = s.supers;

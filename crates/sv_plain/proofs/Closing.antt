@@ -14,22 +14,24 @@ use Rattle.sv_model.specs.After.{KeepsNumber}
 use Rattle.sv_model.specs.Lists.{In}
 use Rattle.sv_model.specs.Named.{numbers_of}
 use Rattle.sv_model.specs.Registers.{entry, GoesOn}
-use Rattle.sv_model.specs.Summaries.{obsolete_of}
+use Rattle.sv_model.specs.Summaries.{obsolete_of, obsolete_registered}
 use Rattle.sv_model.specs.Books.{Books, FileRegister, files_of}
 use Rattle.sv_model.proofs.Registers.{entry_le}
 use Rattle.sv_model.specs.Files.{Files, file_of, file_name}
 use Rattle.sv_dir.specs.Files.{same_name}
 use Rattle.sv_dir.proofs.Laws.{same_name-file_name}
 use Rattle.sv_model.specs.Cells.{Cell}
-use Rattle.sv_files.specs.Calls.{IsRegistered}
-use Rattle.sv_files.specs.Laws.{FileLaws}
+use Rattle.sv_model.specs.Numbers.{IsRegistered, NumbersStand}
 use Rattle.sv_plain.specs.declared.immutables.Immutable.{Immutable}
 use Rattle.sv_plain.specs.Closed.{EndsAs, IsClosed, IsSettledNumber}
 use Rattle.sv_plain.specs.Emptied.{IsEmptied}
-use Rattle.sv_plain.specs.Held.{Both, GoneAreAbsent, Holds, IsFileText, OthersStay}
+use Rattle.sv_model.specs.HeldFiles.{GoneAreAbsent, IsFileText, OthersStay}
+use Rattle.sv_plain.specs.Held.{Both, Holds}
 use Rattle.sv_plain.specs.Removed.{CountsAs, IsRemoval, MayBeGone, Removes, count_obsolete}
 use Rattle.sv_plain.specs.Stands.{IsKept, IsStore, Stands}
 use Rattle.sv_plain.specs.Store.{last_files, top_of}
+use Rattle.sv_model.proofs.Ascending.{length-ascending}
+use Rattle.sv_model.proofs.NumberLaws.{entries_apart}
 use Rattle.sv_plain.proofs.Ending.{some_entry}
 use Rattle.sv_plain.proofs.Lasts.{entry_last, live_last}
 use Rattle.sv_plain.proofs.RemovalFiles.{same_name-itself}
@@ -39,7 +41,7 @@ pub record Closing (b mid : Books) (reach base serial place list version : ℕ) 
   pub stands : Stands b reach base serial place list version active its
   pub emptied : IsEmptied b mid
   pub store : IsStore mid
-  pub laws : FileLaws b.files.numbers b.files.captured b.files.next
+  pub laws : NumbersStand b.files.numbers b.files.captured b.files.next
   pub fits : b.files.next < 2 ^ 64
   pub removal : IsRemoval b.files files
 
@@ -191,7 +193,7 @@ file_stays b mid reach base serial place list version active its files h before 
     let fits = h.fits in
     let number = l.3.number_is in
     let same = same_number x.number file.number (omega arith) (omega arith) e in
-    let here = h.laws.apart n l.0 x l.1 at l.2 (same ∙ sym number) in
+    let here = entries_apart b.files.numbers h.laws.once n l.0 x l.1 at l.2 (same ∙ sym number) in
     let both : Some x ≡ Some l.1 = sym at ∙ ap (entry b.files.numbers) here ∙ l.2 in
     live≢obsolete (sym l.3.status_is ∙ sym (same_status x l.1 both) ∙ obsolete))
   where
@@ -234,6 +236,9 @@ no_length [] e = refl
 no_length (x ∷ l) e = absurd (omega (arith, e))
 
 pub ends_as : (ending : End) (b : Books) (before now : ℕ) → CountsAs ending (count_obsolete b.files.numbers) before now → EndsAs ending b before now
-ends_as end.Clean b before now h = no_length (obsolete_of b.files.numbers) h
-ends_as end.DirFault b before now h = h
-ends_as end.OutOfMemory b before now h = h
+ends_as ending b before now h = by ending (subst (λ n. CountsAs ending n before now) (sym (length-ascending (obsolete_registered b.files.numbers))) h)
+  where
+    by : (ending : End) → CountsAs ending (length (obsolete_of b.files.numbers)) before now → EndsAs ending b before now
+    by end.Clean h = no_length (obsolete_of b.files.numbers) h
+    by end.DirFault h = h
+    by end.OutOfMemory h = h

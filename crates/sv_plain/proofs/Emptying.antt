@@ -173,5 +173,6 @@ emptied b reach base serial place list version pack active its supers new_lists 
         own = subst (λ k. All (IsOwn k) b.journal) (sym count) s.store.own;
         versions = s.store.versions;
         families = s.store.families;
+        free = s.store.free;
       },
     )

@@ -4,12 +4,11 @@ use Rattle.std.proofs.lemmas.List.{length_push}
 use Rattle.sv_model.specs.declared.Memtable.{Memtable}
 use Rattle.sv_model.specs.After.{KeepsMemtable}
 use Rattle.sv_model.specs.Lists.{In, Distinct, times}
-use Rattle.sv_model.specs.Places.{live_count}
+use Rattle.sv_model.specs.Places.{live_count, memtable_live}
 use Rattle.sv_model.specs.Registers.{entry, change, GoesOn}
 use Rattle.sv_model.proofs.Lists.{times_in, in_times}
 use Rattle.sv_model.proofs.Registers.{entry-old, entry-new, entry_push, entry-same, entry-else, entry_le, length-change, total-change}
 use Rattle.sv_cells.specs.Calls.{IsEnded, IsLiveMemtable}
-use Rattle.sv_cells.specs.Laws.{is_live}
 use Rattle.sv_plain.specs.Ended.{AreEnded}
 use Rattle.sv_plain.proofs.Going.{memtable_itself}
 
@@ -44,7 +43,7 @@ none_ended old = record {
 
 -- 1 where the memtable is Live
 abbrev weight : Memtable → ℕ
-weight x = cond (is_live x) 1 0
+weight x = cond (memtable_live x) 1 0
 
 -- one more ends
 pub ended-push : (old mid new : List Memtable) (ids : List ℕ) (m : ℕ) (it : Memtable) → AreEnded old ids mid → IsEnded mid m it new → (In m ids → ⊥) → AreEnded old (ids ++ m ∷ []) new
@@ -65,7 +64,7 @@ ended-push old mid new ids m it h e fresh =
       fewer =
           let t = total-change weight mid m it gone e.at in
           let l : weight it ≡ 1 = ap (λ b. cond b 1 0) e.live in
-          let s : live_count is_live new ≡ live_count is_live (change mid m gone) = ap (live_count is_live) is in
+          let s : live_count memtable_live new ≡ live_count memtable_live (change mid m gone) = ap (live_count memtable_live) is in
           let f = h.fewer in
           let k = length_push ids m in
           omega (arith, t, l, s, f, k);

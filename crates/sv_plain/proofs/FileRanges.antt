@@ -13,7 +13,7 @@ use Rattle.sv_model.specs.Lists.{In}
 use Rattle.sv_model.specs.Named.{numbers_of}
 use Rattle.sv_model.specs.Ranges.{FilesJoin, reach_from, reach_of}
 use Rattle.sv_model.specs.Files.{Files, file_of}
-use Rattle.sv_plain.specs.Held.{IsFileText}
+use Rattle.sv_model.specs.HeldFiles.{IsFileText}
 use Rattle.sv_plain.specs.Immutables.{newer_or}
 use Rattle.sv_plain.specs.Lookups.{HoldEach, ReadFault, FilesFault}
 use Rattle.sv_plain.proofs.Looking.{newest_joined, range_none}

@@ -30,3 +30,5 @@ pub mod TakenOver
 pub mod TakenGoes
 pub mod LiveNumbers
 pub mod Wrapping
+pub mod TakenBack
+pub mod LeftNumbers

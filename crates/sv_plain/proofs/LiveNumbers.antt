@@ -14,10 +14,14 @@ use Rattle.sv_model.specs.Ranges.{FilesJoin}
 use Rattle.sv_model.specs.Registers.{entry, change, GoesOn}
 use Rattle.sv_model.proofs.Ranges as ranges
 use Rattle.sv_model.proofs.Registers.{entry_push, entry-old, entry-new, goes-change}
-use Rattle.sv_files.specs.Calls.{IsRegistered, IsSettled, captured_for, settled_status}
+use Rattle.sv_plain.specs.Outcomes.{IsSettled, settled_status}
+use Rattle.sv_model.specs.Numbers.{IsRegistered}
+use Rattle.sv_files.specs.Calls.{captured_for}
+use Rattle.sv_plain.specs.Removed.{IsFree}
 use Rattle.sv_plain.specs.Stands.{FilesStand, IsKept, IsNamedFile}
 use Rattle.sv_plain.proofs.Going.{number_itself}
 use Rattle.sv_plain.proofs.Switching.{get-front, get-end}
+use Rattle.sv_model.specs.Flat.{plain}
 
 -- the family's number of this status
 abbrev pub of_status : ℕ → FileStatus → RegisteredFile
@@ -38,6 +42,7 @@ pub record Settles (before new : FileRegister) (number : ℕ) (status : FileStat
   pub numbers : new.numbers ≡ before.numbers ++ of_status number status ∷ []
   pub next : new.next ≡ before.next + 1
   pub captured : new.captured ≡ replicate 16 None
+  pub free : IsFree before → IsFree new
 
 pub settles : (before new : FileRegister) (number : ℕ) (live : Bool) → number ≡ before.next → ((n : ℕ) (x : RegisteredFile) → entry before.numbers n ≡ Some x → (x.family ≡ Some 0) × IsKept x.status) → before.captured ≡ replicate 16 None → IsSettled number live (captured_for before 0) new → Settles before new number (settled_status live)
 settles before new number live is kept idle h =
@@ -52,6 +57,13 @@ settles before new number live is kept idle h =
       captured = ap (λ (r : FileRegister). r.captured) h.rest
           ∙ ap (λ k. slice_set (slice_set before.captured 0 (Some before.next)) k None) zero_is
           ∙ ap (λ (l : List (Option ℕ)). slice_set (slice_set l 0 (Some before.next)) 0 None) idle;
+      free = λ f. record {
+        captured = ap (λ (r : FileRegister). r.captured) h.rest
+            ∙ ap (λ k. slice_set (slice_set before.captured 0 (Some before.next)) k None) zero_is
+            ∙ ap (λ (l : List (Option ℕ)). slice_set (slice_set l 0 (Some before.next)) 0 None) idle;
+        holds = ap (λ (r : FileRegister). r.holds) h.rest ∙ f.holds;
+        jobs = ap (λ (r : FileRegister). r.jobs) h.rest ∙ f.jobs;
+      };
     }
   where
     pending : RegisteredFile
@@ -88,7 +100,7 @@ in_last : {A : Type 0} (x : A) (l : List A) → In x (l ++ x ∷ [])
 in_last x l = record { at = length l; is = get-end l x }
 
 -- The last Version has one file more, whose number is Live.
-pub files_more : (b new : Books) (files : List FileMeta) (reach : ℕ) (file : FileMeta) → FilesStand b files reach → file.from ≡ reach → file.from < file.to → file.bottom ≡ false
+pub files_more : (b new : Books) (files : List FileMeta) (reach : ℕ) (file : FileMeta) → FilesStand b files reach → file.from ≡ reach → file.from < file.to → file.bottom ≡ plain
     → new.files.numbers ≡ b.files.numbers ++ of_status file.number Live ∷ [] → new.metas ≡ b.metas ++ file ∷ [] → FilesStand new (files ++ file ∷ []) file.to
 files_more b new files reach file h from some above numbers metas = record {
   joins = ranges.join-push 0 files file (subst (FilesJoin 0 files) (sym from) h.joins);

@@ -9,7 +9,7 @@ use Rattle.sv_model.specs.declared.Memtable.{Memtable}
 use Rattle.sv_model.specs.declared.Row.{Row}
 use Rattle.sv_model.specs.declared.Op.{Op}
 use Rattle.sv_model.specs.Journal.{same_key, of_family, row_of, rows_of, newest_row, newest_op, value_of, look}
-use Rattle.sv_model.specs.Flat.{range_of, kept, row_at, IsFlat}
+use Rattle.sv_model.specs.Flat.{range_of}
 use Rattle.sv_plain.specs.declared.immutables.Immutable.{Immutable}
 use Rattle.sv_plain.specs.Immutables.{ImmutablesJoin, newer_or, immutable_op}
 use Rattle.sv_plain.proofs.Joining.{join_le}

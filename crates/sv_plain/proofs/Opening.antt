@@ -70,6 +70,7 @@ stands_first cell place next active within id rows = record {
     own = none_all (IsOwn 1);
     versions = alone (λ (v : Version). v.live) (versions.live_version []) refl;
     families = refl;
+    free = record { captured = refl; holds = refl; jobs = refl };
   };
   tops = refl;
   supers = alone (λ (s : SuperVersion). s.live) (first_super place) refl;

@@ -9,15 +9,14 @@ use Rattle.sv_model.specs.declared.Version.{Version}
 use Rattle.sv_model.specs.declared.Refusal.{Refusal}
 use Rattle.sv_model.specs.declared.Refusal.TheVariants as refusal
 use Rattle.sv_model.specs.Lists.{In}
-use Rattle.sv_model.specs.Places.{live_count}
+use Rattle.sv_model.specs.Places.{live_count, super_live}
 use Rattle.sv_model.specs.Moments.{WereAllMade, WereManyLive}
 use Rattle.sv_model.specs.Reads.{IsOutput, IsCapturedFor}
 use Rattle.sv_model.specs.Refusals.{IsDue}
 use Rattle.sv_model.specs.Registers.{entry, Has}
 use Rattle.sv_model.specs.Books.{Books, FileRegister, files_of}
 use Rattle.sv_model.proofs.Registers.{entry-new}
-use Rattle.sv_registry.specs.Calls.{make_fault}
-use Rattle.sv_registry.specs.Laws as laws
+use Rattle.sv_registry.specs.Calls.{make_refusal}
 use Rattle.sv_plain.specs.declared.parts.Parts.{Parts}
 use Rattle.sv_plain.specs.Due.{FlushMoment}
 use Rattle.sv_plain.specs.Flushing.{IsLeftBehind, IsNumbered, LeftAs, Outputs, SettlesAs}
@@ -112,10 +111,10 @@ make_by b true live e p q h = subst (FlushMoment b) (let f : refusal.RegisterFul
 make_by b false true e p q h = subst (FlushMoment b) (let f : refusal.TooManyLive ≡ e = cc in f) (q refl)
 make_by b false false e p q h = absurd (cc)
 
-pub make_moment : (b : Books) (e : Refusal) → IsDue (make_fault b.supers) e → FlushMoment b e
+pub make_moment : (b : Books) (e : Refusal) → IsDue (make_refusal b.supers) e → FlushMoment b e
 make_moment b e h = elim (due_is _ e h) [
   | inl memory ↦ subst (FlushMoment b) (sym memory) tt
-  | inr due ↦ make_by b _ _ e (λ t. at_least 1048576 (length b.supers) t) (λ t. let n = at_least 256 (live_count laws.is_live b.supers) t in omega (arith, n, count_le laws.is_live b.supers)) due
+  | inr due ↦ make_by b _ _ e (λ t. at_least 1048576 (length b.supers) t) (λ t. let n = at_least 256 (live_count super_live b.supers) t in omega (arith, n, count_le super_live b.supers)) due
 ]
 
 pub output_moment : (b : Books) (number : ℕ) (e : Refusal) → Has (IsCapturedFor 0 number) b.files.numbers → OutputFault number e → FlushMoment b e
@@ -136,6 +135,6 @@ no_fault true live n e = absurd (cc)
 no_fault false true n e = absurd (cc)
 no_fault false false n e = absurd (cc)
 
-pub left_made : (old new : Books) (before : FileRegister) (file : FileMeta) (supers : List SuperVersion) (e : Refusal) → IsDue (make_fault supers) e → IsLeftBehind old new before file → LeftAs old new before file e
+pub left_made : (old new : Books) (before : FileRegister) (file : FileMeta) (supers : List SuperVersion) (e : Refusal) → IsDue (make_refusal supers) e → IsLeftBehind old new before file → LeftAs old new before file e
 left_made old new before file supers (refusal.DirFault n) h k = absurd (no_fault _ _ n h)
 left_made old new before file supers e h k = k

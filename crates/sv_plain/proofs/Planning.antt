@@ -13,16 +13,14 @@ use Rattle.sv_model.specs.Lists.{In}
 use Rattle.sv_plain.specs.Follows.{Follows}
 use Rattle.sv_model.specs.After.{KeepsSuper, KeepsMemtable, KeepsList, KeepsVersion, KeepsNumber}
 use Rattle.sv_model.specs.Moments.{WasFlushed, WereManyMemtables, WereManyLive, WereAllMade, WereAllNumbered}
-use Rattle.sv_model.specs.Places.{live_count}
+use Rattle.sv_model.specs.Places.{live_count, memtable_live, super_live}
 use Rattle.sv_model.specs.Ranges.{FilesJoin}
 use Rattle.sv_model.specs.Refusals.{first_due}
 use Rattle.sv_model.specs.Books.{Books}
 use Rattle.sv_model.proofs.Registers.{goes-same, goes-push}
 use Rattle.sv_model.specs.Cells.{Cell}
-use Rattle.sv_cells.specs.Laws as cell_laws
-use Rattle.sv_registry.specs.Laws as laws
 use Rattle.sv_files.specs.Calls.{captured_for}
-use Rattle.sv_files.specs.Laws.{captures}
+use Rattle.sv_model.specs.Numbers.{captures}
 use Rattle.sv_plain.specs.declared.immutables.Immutable.{Immutable}
 use Rattle.sv_plain.specs.Immutables.{ImmutablesJoin}
 use Rattle.sv_plain.specs.Due.{FlushMoment, flush_fault, has_rows}
@@ -142,6 +140,6 @@ flush_moment b reach base serial place list version active its e s h =
       | inr last ↦ inr (inr last)
     ])
     (λ t. at_least 1048576 (length b.supers) t)
-    (λ t. let n = at_least 64 (live_count cell_laws.is_live b.memtables) t in omega (arith, n, count_le cell_laws.is_live b.memtables))
-    (λ t. let n = at_least 256 (live_count laws.is_live b.supers) t in omega (arith, n, count_le laws.is_live b.supers))
+    (λ t. let n = at_least 64 (live_count memtable_live b.memtables) t in omega (arith, n, count_le memtable_live b.memtables))
+    (λ t. let n = at_least 256 (live_count super_live b.supers) t in omega (arith, n, count_le super_live b.supers))
     h

@@ -19,7 +19,8 @@ use Rattle.sv_model.proofs.Registers.{entry_push}
 use Rattle.sv_model.specs.Files.{Files, file_of, with_file, file_name}
 use Rattle.sv_dir.specs.Files.{LeavesAny, PutsFile, same_name}
 use Rattle.sv_dir.proofs.Laws.{file_of-with_file}
-use Rattle.sv_plain.specs.Held.{Both, Holds, IsFileText, OthersStay}
+use Rattle.sv_model.specs.HeldFiles.{IsFileText, OthersStay}
+use Rattle.sv_plain.specs.Held.{Both, Holds}
 use Rattle.sv_plain.specs.Store.{last_files, top_of}
 use Rattle.sv_plain.proofs.Joining.{flat-more}
 
@@ -121,8 +122,9 @@ holds_same a b was_open is_open files at bt same journal holds =
 
 text_more : (journal more : List Write) (file : FileMeta) → file.to ≤ length (of_family 0 journal) → (bytes : List ℕ) → IsFileText journal 0 file bytes → IsFileText (journal ++ more) 0 file bytes
 text_more journal more file fits bytes text = record {
+  within = omega (arith, fits, ap length (filter-append (λ (w : Write). w.family == 0) journal more), length-append (of_family 0 journal) (of_family 0 more));
   rows = text.rows;
-  flat = flat-more journal more 0 file.from file.to file.bottom text.rows fits text.flat;
+  flat = subst (λ (z : List Row). IsFlatOf file.from file.to file.bottom z text.rows) (sym (range-more journal more 0 file.from file.to fits)) text.flat;
   table = text.table;
   is = text.is;
 }

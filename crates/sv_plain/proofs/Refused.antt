@@ -7,7 +7,7 @@ use Rattle.sv_model.specs.declared.Refusal.{Refusal}
 use Rattle.sv_model.specs.declared.Refusal.TheVariants as refusal
 use Rattle.sv_model.specs.declared.Write.{Write}
 use Rattle.sv_model.specs.Moments.{BeginsFrom, HasTwo, WasStalled, WereManyMemtables, WereAllMade, WereManyLive}
-use Rattle.sv_model.specs.Places.{live_count}
+use Rattle.sv_model.specs.Places.{live_count, memtable_live, super_live}
 use Rattle.sv_model.specs.Ranges.{FilesJoin, reach_from, reach_of}
 use Rattle.sv_model.specs.declared.FileMeta.{FileMeta}
 use Rattle.sv_model.specs.declared.Version.{Version}
@@ -15,8 +15,6 @@ use Rattle.sv_model.specs.Refusals.{IsDue, first_due}
 use Rattle.sv_model.specs.Books.{Books}
 use Rattle.sv_model.specs.Cells.{Cell}
 use Rattle.sv_cells.specs.Calls as cells
-use Rattle.sv_cells.specs.Laws as cell_laws
-use Rattle.sv_registry.specs.Laws as laws
 use Rattle.sv_registry.specs.Calls as registry
 use Rattle.sv_plain.specs.declared.immutables.Immutable.{Immutable}
 use Rattle.sv_plain.specs.Immutables.{ImmutablesJoin}
@@ -94,15 +92,15 @@ at_least k n e = grind arith
 
 -- what a refusal of a switch that is due says of the books
 pub write_moment : (b : Books) (reach base serial place list version : ℕ) (active : Cell) (its : List Immutable) (e : Refusal) → Stands b reach base serial place list version active its
-    → IsDue (first_due (stall_fault b ∷ cells.memtables_fault b.memtables ∷ registry.make_fault b.supers ∷ [])) e → WriteMoment b e
+    → IsDue (first_due (stall_fault b ∷ cells.memtables_refusal b.memtables ∷ registry.make_refusal b.supers ∷ [])) e → WriteMoment b e
 write_moment b reach base serial place list version active its e s h =
     elim (due_is _ e h) [
       | inl memory ↦ subst (WriteMoment b) (sym memory) tt
       | inr due ↦ moment_of b (nat_le 2 (immutable_count b)) _ _ _ e
           (λ t. subst (λ n. HasTwo (BeginsFrom 0 n) b.memtables) (sym (reached b reach base serial place list version active its s))
           (two_wait b.memtables b.journal 0 reach s.lists.last.members its base s.joins (let n = at_least 2 (immutable_count b) t in let w = waits_counted b reach base serial place list version active its s in omega (arith, n, w))))
-          (λ t. let n = at_least 64 (live_count cell_laws.is_live b.memtables) t in omega (arith, n, count_le cell_laws.is_live b.memtables))
+          (λ t. let n = at_least 64 (live_count memtable_live b.memtables) t in omega (arith, n, count_le memtable_live b.memtables))
           (λ t. at_least 1048576 (length b.supers) t)
-          (λ t. let n = at_least 256 (live_count laws.is_live b.supers) t in omega (arith, n, count_le laws.is_live b.supers))
+          (λ t. let n = at_least 256 (live_count super_live b.supers) t in omega (arith, n, count_le super_live b.supers))
           due
     ]

@@ -13,7 +13,8 @@ use Rattle.sv_model.specs.Summaries.{is_obsolete}
 use Rattle.sv_model.proofs.Registers.{entry_change, total-change}
 use Rattle.sv_dir.specs.declared.DirError.{DirError}
 use Rattle.sv_dir.specs.declared.DirError.TheVariants as dir_error
-use Rattle.sv_files.specs.Calls.{IsLeastObsolete, IsMarked}
+use Rattle.sv_plain.specs.Outcomes.{IsLeastObsolete}
+use Rattle.sv_model.specs.Numbers.{IsMarked}
 use Rattle.sv_plain.specs.Removed.{CountsAs, count_obsolete, end_after}
 
 -- each number is registered once

@@ -11,7 +11,7 @@ use Rattle.sv_model.specs.Registers.{entry, change}
 use Rattle.sv_model.proofs.Registers.{entry_change, entry_le, length-change}
 use Rattle.sv_model.specs.Files.{Files, file_of, with_file, file_name}
 use Rattle.sv_dir.specs.Files.{MayRemove, RemovesFile, same_name}
-use Rattle.sv_files.specs.Calls.{IsRegistered, MarksOnly}
+use Rattle.sv_model.specs.Numbers.{IsRegistered, MarksOnly}
 use Rattle.sv_plain.specs.Held.{Both}
 use Rattle.sv_plain.specs.Removed.{IsRemoval, MayBeGone, Removes}
 use Rattle.sv_plain.proofs.Ending.{some_entry}

@@ -10,9 +10,11 @@ use Rattle.sv_dir.specs.declared.DirError.{DirError}
 use Rattle.sv_dir.specs.declared.DirError.TheVariants as dir_error
 use Rattle.sv_model.specs.Files.{Files}
 use Rattle.sv_dir.specs.Files.{MayRemove, RemovesFile}
-use Rattle.sv_files.specs.Calls.{IsLeastObsolete, MarksOnly}
+use Rattle.sv_plain.specs.Outcomes.{IsLeastObsolete}
+use Rattle.sv_model.specs.Numbers.{MarksOnly}
 use Rattle.sv_plain.specs.Held.{Both}
 use Rattle.sv_plain.specs.Removed.{CountsAs, IsRemoval, Removes, count_obsolete, end_after}
+use Rattle.sv_plain.proofs.LeftNumbers.{AreLeft, left_first, left_gone, left_kept}
 use Rattle.sv_plain.proofs.RemovalCounts.{AreApart, all_below, counts_err, counts_ok, failed, gone_below, left_below, none_below, tried_below}
 use Rattle.sv_plain.proofs.RemovalFiles.{apart_after, both_none, both_removed, both_tried, none_removed, removed-more}
 
@@ -62,3 +64,24 @@ one_more old mid new first between last before faults after from m ending (Err e
 pub all_tried : (old now : FileRegister) (first last : Option Files) (before after from : ℕ) (ending : End) → AreTried old now first last before after from ending → IsLeastObsolete now.numbers from None → CountsAs ending (count_obsolete now.numbers) before after
 all_tried old now first last before after from ending h none =
     subst (λ n. CountsAs ending n before after) (all_below now.numbers from none) h.counts
+
+-- The Obsolete numbers below one were tried, and these are left to be tried.
+pub record AreTriedBut (old now : FileRegister) (first last : Option Files) (before after : ℕ) (left : List ℕ) (ending : End) : Type 0 where
+  pub from : ℕ
+  pub tried : AreTried old now first last before after from ending
+  pub rest : AreLeft now.numbers from left
+
+-- the next one is tried
+pub tried_next : (old mid new : FileRegister) (first between last : Option Files) (before faults after m : ℕ) (left : List ℕ) (ending : End) (r : Result (Unit {0}) DirError)
+    → AreApart old.numbers → AreTriedBut old mid first between before faults (m ∷ left) ending → Tried mid new between last faults after m r
+    → AreTriedBut old new first last before after left (end_after ending r)
+tried_next old mid new first between last before faults after m left ending (Ok x) apart h t = record {
+  from = m + 1;
+  tried = one_more old mid new first between last before faults after h.from m ending (Ok x) apart h.tried (left_first mid.numbers h.from m left h.rest) t;
+  rest = left_gone mid.numbers new.numbers h.from m left h.rest t.marked.numbers;
+}
+tried_next old mid new first between last before faults after m left ending (Err e) apart h t = record {
+  from = m + 1;
+  tried = one_more old mid new first between last before faults after h.from m ending (Err e) apart h.tried (left_first mid.numbers h.from m left h.rest) t;
+  rest = subst (λ (r : FileRegister). AreLeft r.numbers (m + 1) left) (sym t.kept) (left_kept mid.numbers h.from m left h.rest);
+}

@@ -15,10 +15,13 @@ use Rattle.sv_model.specs.Named.{numbers_of}
 use Rattle.sv_model.specs.Registers.{entry, change, GoesOn}
 use Rattle.sv_model.proofs.Registers.{entry-old, entry-new, entry_push, goes-same, goes-change}
 use Rattle.sv_model.specs.Cells.{Cell}
-use Rattle.sv_files.specs.Calls.{IsMarked, IsRegistered, IsSettled, captured_for, settled_status}
+use Rattle.sv_plain.specs.Outcomes.{IsSettled, settled_status}
+use Rattle.sv_model.specs.Numbers.{IsMarked, IsRegistered}
+use Rattle.sv_files.specs.Calls.{Settles, captured_for}
 use Rattle.sv_plain.specs.declared.immutables.Immutable.{Immutable}
 use Rattle.sv_plain.specs.declared.parts.Parts.{Parts}
 use Rattle.sv_plain.specs.Flushing.{Outputs}
+use Rattle.sv_plain.specs.Removed.{IsFree}
 use Rattle.sv_plain.specs.Stands.{FilesStand, IsKept, Stands}
 use Rattle.sv_plain.specs.Store.{top_of}
 use Rattle.sv_plain.proofs.Going.{continues_itself, families_go, list_itself, memtable_itself, number_itself, super_itself, tops_go, version_itself}
@@ -65,22 +68,30 @@ marked before number now new kept is e =
 
 -- The captured number is the last one and has its status, and none is captured any more.
 pub settles : (before new : FileRegister) (number : ℕ) (live : Bool) → AllKept before.numbers → before.captured ≡ replicate 16 None → number ≡ before.next
-    → IsSettled number live (captured_for before 0) new
-    → (new.numbers ≡ before.numbers ++ record { number = number; status = settled_status live; family = Some 0 } ∷ []) × (new.captured ≡ replicate 16 None) × (new.next ≡ before.next + 1)
-settles before new number live kept idle e is =
+    → IsSettled number live (captured_for before 0) new → before.holds ≡ replicate 32 0 → before.jobs ≡ 0
+    → (new.numbers ≡ before.numbers ++ record { number = number; status = settled_status live; family = Some 0 } ∷ []) × IsFree new × (new.next ≡ before.next + 1)
+settles before new number live kept idle e is unheld no_jobs =
     let last = pending_last before.numbers before.next is.numbers.at is.numbers.it kept is.numbers.found is.numbers.had.status_is in
     let zeroth : 0 ≡ is.family = some_same 0 is.family (ap (λ (x : RegisteredFile). x.family) (sym last.1) ∙ is.of) in (
       marked before number (settled_status live) new.numbers kept is.numbers e,
-      ap (λ (r : FileRegister). r.captured) is.rest ∙ uncaptured before.captured before.next is.family idle (sym zeroth),
+      record {
+        captured = ap (λ (r : FileRegister). r.captured) is.rest ∙ uncaptured before.captured before.next is.family idle (sym zeroth);
+        holds = ap (λ (r : FileRegister). r.holds) is.rest ∙ unheld;
+        jobs = ap (λ (r : FileRegister). r.jobs) is.rest ∙ no_jobs;
+      },
       ap (λ (r : FileRegister). r.next) is.rest,
     )
 
 -- The same of a flush under way.
 pub settles_output : (p : Parts) (file : FileMeta) (new : FileRegister) (live : Bool) → (o : Outputs p file) → IsSettled file.number live p.files new
-    → (new.numbers ≡ o.before.numbers ++ record { number = file.number; status = settled_status live; family = Some 0 } ∷ []) × (new.captured ≡ replicate 16 None) × (new.next ≡ p.files.next)
+    → (new.numbers ≡ o.before.numbers ++ record { number = file.number; status = settled_status live; family = Some 0 } ∷ []) × IsFree new × (new.next ≡ p.files.next)
 settles_output p file new live o is =
-    let h = settles o.before new file.number live o.stands.files.kept o.stands.idle o.number (subst (λ z. IsSettled file.number live z new) o.files_are is) in
+    let h = settles o.before new file.number live o.stands.files.kept o.stands.idle o.number (subst (λ z. IsSettled file.number live z new) o.files_are is) o.stands.store.free.holds o.stands.store.free.jobs in
     (h.0, h.1, h.2 ∙ sym (ap (λ (r : FileRegister). r.next) o.files_are))
+
+-- what the register of numbers says of it
+pub settled_as : (number : ℕ) (live : Bool) (old new : FileRegister) → Settles number (settled_status live) old new → IsSettled number live old new
+settled_as number live old new s = record { family = s.family; numbers = s.settled.numbers; of = s.settled.of; was = s.settled.was; rest = s.settled.rest }
 
 -- the captured number is Pending
 pub pends : (before : FileRegister) (number : ℕ) → number ≡ before.next → IsRegistered (captured_for before 0).numbers number Pending
@@ -164,10 +175,10 @@ files_stand a files more number of reach s e = record {
 -- The number is Obsolete, and what it covered is among what numbers cover.
 pub stopped : (a : Books) (files : FileRegister) (more : List FileMeta) (number reach base serial place list version : ℕ) (active : Cell) (its : List Immutable)
     → Stands a reach base serial place list version active its
-    → files.numbers ≡ a.files.numbers ++ number_of number Obsolete ∷ [] → files.captured ≡ replicate 16 None
+    → files.numbers ≡ a.files.numbers ++ number_of number Obsolete ∷ [] → IsFree files
     → Stands (record a { files = files; metas = a.metas ++ more }) reach base serial place list version active its
-stopped a files more number reach base serial place list version active its s e idle = record {
-  store = record { own = s.store.own; versions = s.store.versions; families = s.store.families };
+stopped a files more number reach base serial place list version active its s e free = record {
+  store = record { own = s.store.own; versions = s.store.versions; families = s.store.families; free = free };
   tops = s.tops;
   supers = s.supers;
   lists = s.lists;
@@ -189,7 +200,7 @@ stopped a files more number reach base serial place list version active its s e 
   lives = s.lives;
   counted = s.counted;
   files = files_stand a files more number s.store.versions.last.files reach s.files e;
-  idle = idle;
+  idle = free.captured;
   few_memtables = s.few_memtables;
   few_lists = s.few_lists;
   few_versions = s.few_versions;

@@ -10,14 +10,13 @@ use Rattle.sv_model.specs.Journal.{borne_by, of_family, row_of, rows_of}
 use Rattle.sv_model.specs.Flat.{range_of}
 use Rattle.sv_model.specs.Lists.{In}
 use Rattle.sv_model.specs.Named.{IsLiveList}
-use Rattle.sv_model.specs.Places.{live_count}
+use Rattle.sv_model.specs.Places.{live_count, memtable_live}
 use Rattle.sv_model.specs.Registers.{entry, change}
 use Rattle.sv_model.specs.Books.{Books}
 use Rattle.sv_model.proofs.Lists.{total-push}
 use Rattle.sv_model.proofs.Registers.{entry-old, entry_push, entry_le}
 use Rattle.sv_model.specs.Cells.{Cell}
 use Rattle.sv_cells.specs.Calls as cells
-use Rattle.sv_cells.specs.Laws as cell_laws
 use Rattle.sv_imm.specs.Changes as lists
 use Rattle.sv_registry.specs.Calls as registry
 use Rattle.sv_registry.specs.declared.Freed.{Freed}
@@ -38,8 +37,8 @@ pub record Made (b : Books) (reach base serial place list version pack : ℕ) (a
   pub stands : Stands b reach base serial place list version active its
   pub rows : 0 < length (borne_by (length b.memtables) b.journal)
   pub pack_is : pack ≡ serial * 256 + place
-  pub room : cells.memtables_fault b.memtables ≡ None
-  pub may : registry.make_fault b.supers ≡ None
+  pub room : cells.memtables_refusal b.memtables ≡ None
+  pub may : registry.make_refusal b.supers ≡ None
   pub made_is : SwitchMade b.memtables b.lists b.supers list active.id version (length b.journal) memtables longer more made
   pub reclaimed : registry.IsReclaimed more pack freed supers
   pub released : lists.IsReleased longer list new_lists given
@@ -68,9 +67,9 @@ none_le : (n limit : ℕ) (A : Type 0) (x : A) (rest : Option A) → cond (nat_l
 none_le n limit A x rest e = below n limit (is_no A (nat_le limit n) x rest e)
 
 -- fewer than 64 memtables are not Gone
-pub few_waiting : (b : Books) (reach base serial place list version : ℕ) (active : Cell) (its : List Immutable) → Stands b reach base serial place list version active its → cells.memtables_fault b.memtables ≡ None → length its + 1 < 64
+pub few_waiting : (b : Books) (reach base serial place list version : ℕ) (active : Cell) (its : List Immutable) → Stands b reach base serial place list version active its → cells.memtables_refusal b.memtables ≡ None → length its + 1 < 64
 few_waiting b reach base serial place list version active its h room =
-    let n = none_le (live_count cell_laws.is_live b.memtables) 64 _ _ _ room in
+    let n = none_le (live_count memtable_live b.memtables) 64 _ _ _ room in
     omega (arith, n, h.counted)
 
 pub get-front : {A : Type 0} (xs ys : List A) (n : ℕ) (x : A) → slice_get xs n ≡ Some x → slice_get (xs ++ ys) n ≡ Some x
@@ -96,7 +95,7 @@ same_serial supers more new next serial place pack freed last pushed at within n
           let n = new_one.0 in absurd (omega (arith, is, pack_is, at, n, e, within, near)))
     ]
 
-pub few_made : (supers : List SuperVersion) → registry.make_fault supers ≡ None → length supers < 1048576
+pub few_made : (supers : List SuperVersion) → registry.make_refusal supers ≡ None → length supers < 1048576
 few_made supers e = none_le (length supers) 1048576 _ _ _ e
 
 -- who is Live among the memtables
@@ -161,7 +160,7 @@ switched b is_open reach base serial place list version pack active its memtable
     (record { cell = s.cell; at = entry_here; id = h.it_id; some = short_base; few = few_rows; rows = rows_are }) in (
       n.pack_is,
       record {
-        store = record { own = own_more (length b.memtables) (length memtables) b.journal (omega arith) own; versions = s.store.versions; families = s.store.families };
+        store = record { own = own_more (length b.memtables) (length memtables) b.journal (omega arith) own; versions = s.store.versions; families = s.store.families; free = s.store.free };
         tops = ap (λ o. top_from o (length supers) (length b.versions) ∷ []) is_true;
         supers = hand_over (λ x. x.live) b.supers supers (next_super made version (length b.journal) n.place) _ serial s.supers new_supers s.serial_is refl refl;
         lists = hand_over (λ x. x.live) b.lists new_lists (lists.live_list (s.lists.last.members ++ active.id ∷ [])) _ list s.lists lists_is s.list_is refl refl;
@@ -182,7 +181,7 @@ switched b is_open reach base serial place list version pack active its memtable
         older = All-append (λ x. x < length memtables) s.lists.last.members (active.id ∷ []) (λ k d lt. let o = s.older k d lt in omega arith) (one_below active.id (length memtables) (let e = s.active_id in omega arith));
         short = (let e = length_push its it in omega arith);
         lives = lives_more b.memtables memtables _ s.lists.last.members active.id m.made s.active_id s.lives;
-        counted = ap (live_count cell_laws.is_live) m.made ∙ total-push (λ x. cond (cell_laws.is_live x) 1 0) b.memtables _ ∙ (let e = length_push its it in let c = s.counted in omega arith);
+        counted = ap (live_count memtable_live) m.made ∙ total-push (λ x. cond (memtable_live x) 1 0) b.memtables _ ∙ (let e = length_push its it in let c = s.counted in omega arith);
         files = record { joins = s.files.joins; named = s.files.named; only = s.files.only; kept = s.files.kept };
         idle = s.idle;
         few_memtables = (let e = s.few_memtables in omega arith);

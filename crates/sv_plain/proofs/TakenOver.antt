@@ -7,7 +7,6 @@ use Rattle.sv_model.specs.declared.Version.{Version}
 use Rattle.sv_model.specs.declared.FileMeta.{FileMeta}
 use Rattle.sv_model.specs.Books.{FileRegister}
 use Rattle.sv_model.specs.Journal.{borne_by}
-use Rattle.sv_cells.specs.Laws as cell_laws
 use Rattle.sv_plain.specs.declared.installs.Flushed.{Flushed}
 use Rattle.sv_plain.specs.declared.parts.Parts.{Parts}
 use Rattle.sv_plain.specs.Installs.{descriptor_of}
@@ -19,6 +18,7 @@ use Rattle.sv_plain.proofs.LiveNumbers.{files_more}
 use Rattle.sv_plain.proofs.Outlasting.{one_live}
 use Rattle.sv_plain.proofs.Switching.{few_made}
 use Rattle.sv_plain.proofs.Taking.{Steps, books_after, list_made, version_made, lists_are, lists_last, versions_are, versions_last, supers_are, supers_last, file_settles, active_alone, active_still, before_it}
+use Rattle.sv_model.specs.Places.{memtable_live}
 
 pub stands_after : (p : Parts) (file : FileMeta) (made : Flushed) (supers : List SuperVersion) (new_lists : List MemtableList) (memtables : List Memtable) (new_versions : List Version) (files : FileRegister) → (h : Steps p file made supers new_lists memtables new_versions files)
     → Stands (books_after p supers new_lists memtables new_versions files) p.base p.base (length h.taking.supers + 1) h.taking.made_is.rest.super_is.place made.list made.version p.active []
@@ -40,6 +40,7 @@ stands_after p file made supers new_lists memtables new_versions files h =
         own = subst (λ k. All (IsOwn k) p.journal.items) (sym count_m) s.store.own;
         versions = versions_last p file made t new_versions h.gone h.dropped;
         families = s.store.families;
+        free = settled.free s.store.free;
       };
       tops = ap (λ b. top_from b (length supers) (length new_versions) ∷ []) o.is;
       supers = supers_last p file made t supers h.freed h.reclaimed;
@@ -60,7 +61,7 @@ stands_after p file made supers new_lists memtables new_versions files h =
       older = λ k d lt. absurd (omega (arith, lt));
       short = omega arith;
       lives = λ m x at live. inr (active_alone p file made supers new_lists memtables new_versions files h m x at live);
-      counted = one_live cell_laws.is_live memtables _ (active_still p file made supers new_lists memtables new_versions files h) refl (active_alone p file made supers new_lists memtables new_versions files h);
+      counted = one_live memtable_live memtables _ (active_still p file made supers new_lists memtables new_versions files h) refl (active_alone p file made supers new_lists memtables new_versions files h);
       files = subst (λ k. FilesStand (books_after p supers new_lists memtables new_versions files) (s.store.versions.last.files ++ file ∷ []) k) o.to
           (files_more (record (books_of (before_it p file made t)) { files = o.before; metas = o.metas }) (books_after p supers new_lists memtables new_versions files) s.store.versions.last.files p.reach file s.files o.from
           (let a = o.from in let b = o.to in let c = o.some in omega (arith, a, b, c)) o.above settled.numbers o.metas_are);

@@ -12,7 +12,7 @@ use Rattle.sv_model.specs.Named.{HasFile, IsLiveList, IsLiveVersion, numbers_of}
 use Rattle.sv_model.specs.Registers.{entry, change, Has}
 use Rattle.sv_model.proofs.Registers.{entry-old}
 use Rattle.sv_cells.specs.Calls.{IsLiveMemtable}
-use Rattle.sv_files.specs.Calls.{IsSettled}
+use Rattle.sv_plain.specs.Outcomes.{IsSettled}
 use Rattle.sv_imm.specs.Changes as lists
 use Rattle.sv_version.specs.Changes as versions
 use Rattle.sv_registry.specs.Calls as registry

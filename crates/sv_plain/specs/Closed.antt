@@ -15,7 +15,7 @@ use Rattle.sv_model.specs.Named.{numbers_of}
 use Rattle.sv_model.specs.Registers.{entry}
 use Rattle.sv_model.specs.Summaries.{obsolete_of}
 use Rattle.sv_model.specs.Books.{Books}
-use Rattle.sv_files.specs.Calls.{IsRegistered}
+use Rattle.sv_model.specs.Numbers.{IsRegistered}
 use Rattle.sv_plain.specs.Store.{last_files, top_of}
 
 -- A registered number is Gone; or Live and in the last Version; or Obsolete, and then it is among those left.

@@ -6,8 +6,8 @@ use Rattle.sv_model.specs.Refusals.{first_due}
 use Rattle.sv_model.specs.Moments.{WasStalled, WasFlushed, WereManyMemtables, WereManyLive, WereAllMade, WereAllNumbered, WasCapturedFor}
 use Rattle.sv_model.specs.Ranges.{reach_of}
 use Rattle.sv_model.specs.Books.{Books}
-use Rattle.sv_cells.specs.Calls.{memtables_fault}
-use Rattle.sv_registry.specs.Calls.{full_fault, make_fault}
+use Rattle.sv_cells.specs.Calls.{memtables_refusal}
+use Rattle.sv_registry.specs.Calls.{full_refusal, make_refusal}
 use Rattle.sv_files.specs.Calls.{capture_fault}
 use Rattle.sv_plain.specs.Store.{active_rows, immutable_count, last_files, write_count}
 
@@ -27,7 +27,7 @@ stall_fault b = cond (nat_le 2 (immutable_count b)) (Some refusal.Stalled) None
 
 -- the refusal that a write meets, in these books
 abbrev pub write_fault : Books → Option Refusal
-write_fault b = only_if (is_switch_due b) (first_due (stall_fault b ∷ memtables_fault b.memtables ∷ make_fault b.supers ∷ []))
+write_fault b = only_if (is_switch_due b) (first_due (stall_fault b ∷ memtables_refusal b.memtables ∷ make_refusal b.supers ∷ []))
 
 -- what a refused write says of the books
 abbrev pub WriteMoment : Books → Refusal → Type 0
@@ -58,7 +58,7 @@ abbrev pub all_made_fault : Books → Option Refusal
 all_made_fault b = cond (nat_le 1048576 (length b.supers)) (Some refusal.RegisterFull) None
 
 abbrev pub all_live_fault : Books → Option Refusal
-all_live_fault b = full_fault b.supers
+all_live_fault b = full_refusal b.supers
 
 -- a flush switches first where the active memtable has a row
 abbrev pub has_rows : Books → Bool
@@ -67,7 +67,7 @@ has_rows b = nat_lt 0 (active_rows b)
 -- the refusal that a flush meets before anything is done, in these books
 abbrev pub flush_fault : Books → Option Refusal
 flush_fault b = first_due (nothing_fault b ∷ capture_fault b.files ∷ only_if (has_rows b) (all_made_fault b)
-    ∷ only_if (has_rows b) (memtables_fault b.memtables) ∷ only_if (has_rows b) (all_live_fault b) ∷ [])
+    ∷ only_if (has_rows b) (memtables_refusal b.memtables) ∷ only_if (has_rows b) (all_live_fault b) ∷ [])
 
 -- what a refused flush says of the books that it leaves
 abbrev pub FlushMoment : Books → Refusal → Type 0

@@ -14,6 +14,7 @@ use Rattle.sv_plain.specs.declared.parts.Parts.{Parts}
 use Rattle.sv_plain.specs.Stands.{Stands}
 use Rattle.sv_plain.specs.Store.{active_rows, immutable_count, last_files}
 use Rattle.sv_plain.specs.Views.{books_of}
+use Rattle.sv_model.specs.Flat.{plain}
 
 pub record Outputs (p : Parts) (file : FileMeta) : Type 0 where
   pub is : p.is_open ≡ true
@@ -31,7 +32,7 @@ pub record Outputs (p : Parts) (file : FileMeta) : Type 0 where
   pub fits : file.number < 2 ^ 64
   pub from : file.from ≡ p.reach
   pub to : file.to ≡ p.base
-  pub above : file.bottom ≡ false
+  pub above : file.bottom ≡ plain
   pub some : p.reach < p.base
 
 -- The captured number has this status, and is registered last; none is captured any more. The books before the

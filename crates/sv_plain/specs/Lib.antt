@@ -19,3 +19,4 @@ pub mod Emptied
 pub mod Removed
 pub mod Taken
 pub mod Alone
+pub mod Outcomes

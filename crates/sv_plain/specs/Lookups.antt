@@ -1,16 +1,15 @@
 -- What reading table files gives, and when it is refused.
-use Rattle.std.specs.Prelude.{◌≡◌, ℕ, Bool, false, List, Result, Ok, Err, IsSomeAnd}
+use Rattle.std.specs.Prelude.{◌≡◌, ℕ, List, Result, Ok, Err}
 use Rattle.sv_model.specs.declared.Write.{Write}
-use Rattle.sv_model.specs.declared.Row.{Row}
 use Rattle.sv_model.specs.declared.FileMeta.{FileMeta}
 use Rattle.sv_model.specs.declared.Refusal.{Refusal}
 use Rattle.sv_model.specs.declared.Refusal.TheVariants as refusal
-use Rattle.sv_model.specs.Flat.{IsFlat}
+use Rattle.sv_model.specs.Flat.{plain}
 use Rattle.sv_model.specs.Lists.{In}
 use Rattle.sv_model.specs.Named.{numbers_of}
-use Rattle.sv_model.specs.declared.Table.{Table}
-use Rattle.sv_model.specs.Files.{Files, file_of}
-use Rattle.sv_plain.specs.Held.{IsFileText}
+use Rattle.sv_table.specs.declared.Head.{Head}
+use Rattle.sv_model.specs.Files.{Files}
+use Rattle.sv_model.specs.HeldFiles.{HoldsText}
 
 -- ---- refusals
 
@@ -51,28 +50,14 @@ GivesAs seen x (Err e) = NoneBad e
 abbrev pub Gives : {T : Type 0} → T → Result T Refusal → Type 0
 Gives x result = GivesAs (λ y. y) x result
 
--- the same of a table
-abbrev pub GivesTable : ℕ → ℕ → Bool → List Row → Result Table Refusal → Type 0
-GivesTable from to bottom rows (Ok t) = (t.from ≡ from) × (t.to ≡ to) × (t.bottom ≡ bottom) × (t.rows ≡ rows)
-GivesTable from to bottom rows (Err e) = NoneBad e
-
--- The answer is the table that the file's range of writes leaves, or a refusal, but no file was bad.
-abbrev pub GivesFlat : List Write → ℕ → FileMeta → Result Table Refusal → Type 0
-GivesFlat journal family file (Ok t) = IsFlat journal family file.from file.to file.bottom t.rows
-GivesFlat journal family file (Err e) = NoneBad e
-
--- the table is over the file's range
-pub record HasRange (file : FileMeta) (t : Table) : Type 0 where
+-- the head is that of a table over the file's range
+pub record HasRange (file : FileMeta) (t : Head) : Type 0 where
   pub from : t.from ≡ file.from
   pub to : t.to ≡ file.to
   pub bottom : t.bottom ≡ file.bottom
 
 -- ---- what the directory holds
 
--- The file holds the text of its range.
-abbrev pub HoldsText : Files → List Write → ℕ → FileMeta → Type 0
-HoldsText all journal family file = IsSomeAnd (file_of file.number all) (IsFileText journal family file)
-
--- Each of these files holds the text of its range, and keeps deletes.
+-- Each of these files holds the text of its range, and keeps deletes and no cut.
 abbrev pub HoldEach : Files → List Write → List FileMeta → Type 0
-HoldEach all journal files = (file : FileMeta) → In file files → (file.bottom ≡ false) × HoldsText all journal 0 file
+HoldEach all journal files = (file : FileMeta) → In file files → (file.bottom ≡ plain) × HoldsText all journal 0 file

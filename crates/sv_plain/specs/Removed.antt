@@ -1,5 +1,5 @@
 -- What the removal of Obsolete files does to the register and to the directory.
-use Rattle.std.specs.Prelude.{◌≡◌, ◌≤◌, ◌⊎◌, ℕ, List, Some, None, Result, Ok, Err, length}
+use Rattle.std.specs.Prelude.{◌≡◌, ◌≤◌, ◌⊎◌, ℕ, List, Some, None, Result, Ok, Err, length, replicate}
 use Rattle.std.specs.FinMap as map
 use Rattle.sv_model.specs.declared.End.{End}
 use Rattle.sv_model.specs.declared.End.TheVariants as end
@@ -8,10 +8,17 @@ use Rattle.sv_model.specs.declared.RegisteredFile.{RegisteredFile}
 use Rattle.sv_model.specs.Books.{FileRegister}
 use Rattle.sv_model.specs.Faults.{RoseBy}
 use Rattle.sv_model.specs.Registers.{entry}
-use Rattle.sv_model.specs.Summaries.{obsolete_of}
+use Rattle.sv_model.specs.Summaries.{obsolete_registered}
 use Rattle.sv_dir.specs.declared.DirError.{DirError}
 use Rattle.sv_dir.specs.declared.DirError.TheVariants as dir_error
 use Rattle.sv_model.specs.Files.{Files, file_of, file_name}
+
+-- no number is captured, no hold stands and no job is under way
+pub record IsFree (r : FileRegister) : Type 0 where
+  pub captured : r.captured ≡ replicate 16 None
+  pub holds : r.holds ≡ replicate 32 0
+  pub jobs : r.jobs ≡ 0
+
 -- The number is as it was, or was Obsolete and is Gone.
 abbrev pub MayBeGone : RegisteredFile → RegisteredFile → Type 0
 MayBeGone x y = (y ≡ x) ⊎ ((x.status ≡ Obsolete) × (y ≡ record x { status = Gone }))
@@ -33,7 +40,7 @@ pub record Removes (old new : List RegisteredFile) (before after : Files) : Type
 
 -- how many numbers are Obsolete
 abbrev pub count_obsolete : List RegisteredFile → ℕ
-count_obsolete numbers = length (obsolete_of numbers)
+count_obsolete numbers = length (obsolete_registered numbers)
 
 -- How the removals ended, where so many numbers are left: clean where none is; else some are left, and where none of
 -- them is for want of memory, the directory failed at each.

@@ -11,6 +11,7 @@ use Rattle.sv_model.specs.Ranges.{reach_of}
 use Rattle.sv_model.specs.Reads.{IsOutput, IsWrite}
 use Rattle.sv_plain.specs.Due.{flush_fault, has_rows}
 use Rattle.sv_plain.specs.Store.{last_files, active_rows, immutable_count, write_count}
+use Rattle.sv_model.specs.Flat.{plain}
 
 -- The write is added: of the family, by the lane 0, into the memtable that is active then.
 pub record IsWritten (old new : Books) (key : List ℕ) (op : Op) : Type 0 where
@@ -35,7 +36,7 @@ pub record IsFlushed (old new : Books) (file : FileMeta) : Type 0 where
   pub files : last_files new ≡ last_files old ++ file ∷ []
   pub from : file.from ≡ reach_of (last_files old)
   pub some : file.from < file.to
-  pub above : file.bottom ≡ false
+  pub above : file.bottom ≡ plain
   pub all : file.to ≡ write_count new
   pub output : IsOutput new 0 file
   pub empty : active_rows new ≡ 0

@@ -9,17 +9,18 @@ use Rattle.sv_model.specs.declared.FileStatus.TheVariants.{Live, Obsolete}
 use Rattle.sv_model.specs.Journal.{borne_by, rows_of}
 use Rattle.sv_model.specs.Lists.{In}
 use Rattle.sv_model.specs.Named.{numbers_of}
-use Rattle.sv_model.specs.Places.{live_count}
+use Rattle.sv_model.specs.Places.{live_count, memtable_live}
 use Rattle.sv_model.specs.Ranges.{FilesJoin}
 use Rattle.sv_model.specs.Registers.{entry}
 use Rattle.sv_model.specs.Books.{Books}
 use Rattle.sv_model.specs.Cells.{Cell}
-use Rattle.sv_cells.specs.Laws as cells
-use Rattle.sv_files.specs.Calls.{IsRegistered}
+use Rattle.sv_model.specs.Numbers.{IsRegistered}
 use Rattle.sv_plain.specs.declared.immutables.Immutable.{Immutable}
 use Rattle.sv_plain.specs.Immutables.{ImmutablesJoin}
 use Rattle.sv_plain.specs.Lasts.{OnlyLast}
+use Rattle.sv_plain.specs.Removed.{IsFree}
 use Rattle.sv_plain.specs.Store.{default_family, first_options, top_of}
+use Rattle.sv_model.specs.Flat.{plain}
 
 -- A write of the one family and the one lane, into a memtable that was made.
 pub record IsOwn (made : ℕ) (w : Write) : Type 0 where
@@ -36,7 +37,7 @@ IsKept status = ⊥
 -- a file of the last Version
 pub record IsNamedFile (numbers : List RegisteredFile) (metas : List FileMeta) (file : FileMeta) : Type 0 where
   pub some : file.from < file.to
-  pub above : file.bottom ≡ false
+  pub above : file.bottom ≡ plain
   pub live : IsRegistered numbers file.number Live
   pub covers : In file metas
 
@@ -52,6 +53,7 @@ pub record IsStore (b : Books) : Type 0 where
   pub own : All (IsOwn (length b.memtables)) b.journal
   pub versions : OnlyLast (λ v. v.live) b.versions
   pub families : b.families ≡ default_family ∷ []
+  pub free : IsFree b.files
 
 -- The open store: only the current SuperVersion, its list and the last Version are Live, and the memtables that
 -- they name; the ranges of the files, the immutable memtables and the active one join and end with the journal.
@@ -80,7 +82,7 @@ pub record Stands (b : Books) (reach base serial place list version : ℕ) (acti
   pub older : All (λ m. m < length b.memtables) lists.last.members
   pub short : length immutables < 64
   pub lives : (m : ℕ) (x : Memtable) → entry b.memtables m ≡ Some x → x.live ≡ true → In m lists.last.members ⊎ (m ≡ length b.memtables)
-  pub counted : live_count cells.is_live b.memtables ≡ length immutables + 1
+  pub counted : live_count memtable_live b.memtables ≡ length immutables + 1
   pub files : FilesStand b store.versions.last.files reach
   pub idle : b.files.captured ≡ replicate 16 None
   pub few_memtables : length b.memtables ≤ length b.supers

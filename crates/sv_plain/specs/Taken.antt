@@ -21,7 +21,7 @@ pub record IsTaking (p : Parts) (file : FileMeta) (made : Flushed) : Type 0 wher
   pub lists : List MemtableList
   pub versions : List Version
   pub outputs : Outputs (record p { registry = supers; lists = lists; versions = versions }) file
-  pub may : registry.make_fault supers ≡ None
+  pub may : registry.make_refusal supers ≡ None
   pub made_is : OutputMade versions lists supers file p.list (length p.immutables.items) p.active.id p.last p.base p.versions p.lists p.registry made
 
 -- What a flush that ended well leaves of the parts.

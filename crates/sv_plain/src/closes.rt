@@ -3,7 +3,8 @@ ghost use Rattle.std.specs.Prelude.{◌≡◌, ◌≤◌, length};
 ghost use Rattle.sv_plain.specs.Follows.{Follows};
 ghost use Rattle.sv_plain.specs.Closed.{EndsAs, IsClosed};
 ghost use Rattle.sv_plain.specs.Emptied.{IsEmptied};
-ghost use Rattle.sv_plain.specs.Held.{Both, GoneAreAbsent, Holds, OthersStay};
+ghost use Rattle.sv_model.specs.HeldFiles.{GoneAreAbsent, OthersStay};
+ghost use Rattle.sv_plain.specs.Held.{Both, Holds};
 ghost use Rattle.sv_plain.specs.Views.{Rests, Runs, books_of};
 
 use crate::endings::end_members;

@@ -4,10 +4,11 @@ ghost use Rattle.sv_model.specs.declared.FileStatus.TheVariants.{Live, Obsolete}
 ghost use Rattle.sv_plain.specs.Follows.{Follows};
 ghost use Rattle.sv_model.specs.Faults.{RoseBy};
 ghost use Rattle.sv_model.specs.Refusals.{Refuses};
-ghost use Rattle.sv_registry.specs.Calls.{make_fault};
+ghost use Rattle.sv_registry.specs.Calls.{make_refusal};
 ghost use Rattle.sv_plain.specs.Due.{FlushMoment, fault_of, flush_fault};
 ghost use Rattle.sv_plain.specs.Flushing.{IsFinished, IsNumbered, LeftAs, Outputs, SettlesAs};
-ghost use Rattle.sv_plain.specs.Held.{Both, Holds, OthersStay};
+ghost use Rattle.sv_model.specs.HeldFiles.{OthersStay};
+ghost use Rattle.sv_plain.specs.Held.{Both, Holds};
 ghost use Rattle.sv_plain.specs.Settled.{IsFlushed, IsStopped};
 ghost use Rattle.sv_plain.specs.Store.{IsNumberedFrom, active_rows, immutable_count, last_files};
 ghost use Rattle.sv_plain.specs.Taken.{IsTaken, IsTaking};
@@ -17,6 +18,7 @@ use crate::endings::end_members;
 use crate::installs::{Flushed, make_output};
 use crate::parts::Parts;
 use sv_dir::Dir;
+use sv_files::Settled;
 use sv_model::{FileMeta, Refusal};
 
 impl Parts {
@@ -30,7 +32,7 @@ impl Parts {
         ensures metas { self.new.metas ≡ self.old.metas }
         ensures after { Follows (books_of self.old) (books_of self.new) }
     {
-        self.files.settle(file.number, false);
+        self.files.settle(file.number, Settled::Obsolete);
     }
 
     // The SuperVersion before is Gone, with all that it alone named; the file is Live.
@@ -42,7 +44,7 @@ impl Parts {
         let flushed = self.lists.release(self.list);
         end_members(&mut self.memtables, flushed.as_slice());
         let _ = self.versions.release(self.last);
-        self.files.settle(file.number, true);
+        self.files.settle(file.number, Settled::Live);
         self.immutables.clear();
         self.reach = self.base;
         self.pack = made.pack;
@@ -54,7 +56,7 @@ impl Parts {
     /// memtables. Refused as `RegisterFull` or `TooManyLive`, and then the number is Obsolete and the memtables stay.
     pub fn finish_output(&mut self, file: &FileMeta) -> Result<(), Refusal>
         requires { Outputs self.old file.now }
-        ensures refused { Refuses (make_fault self.old.registry) result }
+        ensures refused { Refuses (make_refusal self.old.registry) result }
         ensures runs { Runs self.new }
         ensures journal { self.new.journal ≡ self.old.journal }
         ensures metas { self.new.metas ≡ self.old.metas }

@@ -6,11 +6,11 @@ ghost use Rattle.sv_model.specs.Named.{IsLiveList, IsLiveVersion, HasFile};
 ghost use Rattle.sv_model.specs.Ranges.{FilesJoin};
 ghost use Rattle.sv_model.specs.Refusals.{Refuses, first_due};
 ghost use Rattle.sv_model.specs.Registers.{entry, Has};
-ghost use Rattle.sv_cells.specs.Calls.{memtables_fault};
-ghost use Rattle.sv_registry.specs.Calls.{make_fault};
+ghost use Rattle.sv_cells.specs.Calls.{memtables_refusal};
+ghost use Rattle.sv_registry.specs.Calls.{make_refusal};
 ghost use Rattle.sv_plain.specs.Installs.{ListMade, OutputMade, PopMade, SwitchMade, descriptor_of};
 
-use sv_cells::Memtables;
+use sv_cells::MemtableRegister;
 use sv_imm::ImmLists;
 use sv_model::{Descriptor, FamilyId, FileMeta, ListId, MemId, Options, Pack, Refusal, VersionId};
 use sv_registry::Registry;
@@ -58,7 +58,7 @@ fn make_list(
     requires live { IsLiveList lists.old list }
     requires short { (l : MemtableList) → entry lists.old list ≡ Some l → length l.members < 64 }
     requires few { length lists.old < 4294967295 }
-    ensures refused { Refuses (make_fault registry.old) result }
+    ensures refused { Refuses (make_refusal registry.old) result }
     ensures made { IfOk result (λ made. ListMade lists.old registry.old list active mem version base lists.new registry.new made.0 made.1) }
     ensures kept { OnErr result (lists.new ≡ lists.old) }
     ensures same { OnErr result (registry.new ≡ registry.old) }
@@ -78,7 +78,7 @@ fn make_list(
 /// Makes what is new after a switch: a memtable of the family that begins after `base` writes, a list that has the
 /// active memtable last, and a SuperVersion. A refusal changes nothing.
 pub(crate) fn make_switch(
-    memtables: &mut Memtables,
+    memtables: &mut MemtableRegister,
     lists: &mut ImmLists,
     registry: &mut Registry,
     list: ListId,
@@ -87,10 +87,10 @@ pub(crate) fn make_switch(
     base: u64,
 ) -> Result<Switched, Refusal>
     requires live { IsLiveList lists.old list }
-    requires short { (l : MemtableList) → entry lists.old list ≡ Some l → memtables_fault memtables.old ≡ None → length l.members < 64 }
+    requires short { (l : MemtableList) → entry lists.old list ≡ Some l → memtables_refusal memtables.old ≡ None → length l.members < 64 }
     requires few { length lists.old < 4294967295 }
     requires few_memtables { length memtables.old < 4294967295 }
-    ensures refused { Refuses (first_due (memtables_fault memtables.old ∷ make_fault registry.old ∷ [])) result }
+    ensures refused { Refuses (first_due (memtables_refusal memtables.old ∷ make_refusal registry.old ∷ [])) result }
     ensures made { IfOk result (SwitchMade memtables.old lists.old registry.old list active version base memtables.new lists.new registry.new) }
     ensures kept_memtables { OnErr result (memtables.new ≡ memtables.old) }
     ensures kept_lists { OnErr result (lists.new ≡ lists.old) }
@@ -118,7 +118,7 @@ fn pop_list(
 ) -> Result<(ListId, Pack), Refusal>
     requires live { IsLiveList lists.old list }
     requires few { length lists.old < 4294967295 }
-    ensures refused { Refuses (make_fault registry.old) result }
+    ensures refused { Refuses (make_refusal registry.old) result }
     ensures made { IfOk result (λ made. PopMade lists.old registry.old list count mem version base lists.new registry.new made.0 made.1) }
     ensures kept { OnErr result (lists.new ≡ lists.old) }
     ensures same { OnErr result (registry.new ≡ registry.old) }
@@ -154,7 +154,7 @@ pub(crate) fn make_output(
     requires few_versions { length versions.old < 4294967295 }
     requires live { IsLiveList lists.old list }
     requires few { length lists.old < 4294967295 }
-    ensures refused { Refuses (make_fault registry.old) result }
+    ensures refused { Refuses (make_refusal registry.old) result }
     ensures made { IfOk result (OutputMade versions.old lists.old registry.old file list count mem version base versions.new lists.new registry.new) }
     ensures kept_versions { OnErr result (versions.new ≡ versions.old) }
     ensures kept_lists { OnErr result (lists.new ≡ lists.old) }

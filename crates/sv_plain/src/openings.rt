@@ -8,7 +8,7 @@ ghost use Rattle.sv_plain.specs.Views.{Runs, books_of};
 
 use crate::parts::Parts;
 use std::alloc::Global;
-use sv_cells::Memtables;
+use sv_cells::MemtableRegister;
 use sv_files::FileBook;
 use sv_imm::ImmLists;
 use sv_memtable::MemCell;
@@ -19,7 +19,7 @@ use sv_registry::Registry;
 use sv_version::Versions;
 
 // The first memtable. Where none was made, none is refused but for want of memory.
-fn first_memtable(memtables: &mut Memtables) -> Result<MemId, OutOfMemory>
+fn first_memtable(memtables: &mut MemtableRegister) -> Result<MemId, OutOfMemory>
     requires { memtables.old ≡ [] }
     ensures { IfOk result (cells.IsMade [] 0 0 memtables.new) }
 {
@@ -65,7 +65,7 @@ impl Parts {
         ensures numbers { IfOk result (λ p. (p.files.numbers ≡ []) × (p.files.next ≡ next)) }
         ensures metas { IfOk result (λ p. p.metas.items ≡ []) }
     {
-        let mut memtables = Memtables::new(alloc);
+        let mut memtables = MemtableRegister::new(alloc);
         let mut lists = ImmLists::new(alloc);
         let mut versions = Versions::new(alloc);
         let mut registry = Registry::new(alloc);

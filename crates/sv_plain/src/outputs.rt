@@ -1,38 +1,50 @@
 // The file of a flush: one table of all immutable memtables.
-ghost use Rattle.std.specs.Prelude.{◌≡◌, ◌≤◌, ◌⊎◌, ℕ, List, IfOk, IfErr, OnOk, OnErr, map};
+ghost use Rattle.std.specs.Prelude.{◌≡◌, ◌≤◌, ◌<◌, ◌+◌, ◌^◌, ◌++◌, ◌⊎◌, ℕ, List, IfOk, IfErr, OnOk, OnErr, length, map};
+ghost use Rattle.std.specs.List.{AllByRecursion};
+ghost use Rattle.std.specs.List.Sorted.{IsPermutation};
 ghost use Rattle.sv_model.specs.Faults.{RoseBy};
 ghost use Rattle.sv_dir.specs.Files.{LeavesAny, PutsFile};
 ghost use Rattle.sv_plain.specs.Due.{fault_of};
-ghost use Rattle.sv_plain.specs.Held.{IsFileText};
-ghost use Rattle.sv_plain.specs.Outputs.{IsDueAs, OutputFault, table_of};
+ghost use Rattle.sv_model.specs.HeldFiles.{IsFileText};
+ghost use Rattle.sv_plain.specs.Outputs.{IsDueAs, OutputFault, moved, numbered_all};
 
 use crate::immutables::Immutable;
 use crate::parts::Parts;
 use std::alloc::Global;
 use sv_dir::{Dir, DirError};
-use sv_model::{FileMeta, FileNumber, Items, OutOfMemory, Refusal};
-use sv_table::{Table, encode, merge};
+use sv_merge::build;
+use sv_model::{Bottom, FileMeta, FileNumber, Numbered, OutOfMemory, Refusal};
+use sv_table::encode;
 
-fn table_of(alloc: Global, it: &Immutable) -> Result<Table, OutOfMemory>
-    ensures { IfOk result (λ table. table ≡ table_of it.now) }
+// Appends copies of the rows, each with its number moved on.
+fn append_rows(
+    rows: &mut Vec<Numbered>,
+    frozen: &[Numbered],
+    first: u64,
+) -> Result<(), OutOfMemory>
+    requires { AllByRecursion (λ n. first + n.number < 2 ^ 64) frozen.now }
+    ensures { OnOk result (rows.new.items ≡ rows.old.items ++ map (moved first) frozen.now) }
 {
-    let rows = it.rows.to_rows(alloc)?;
-    Ok(Table {
-        from: it.from,
-        to: it.to,
-        bottom: false,
-        rows: Items::from_vec(rows),
-    })
+    for numbered in frozen {
+        let row = numbered.row.clone()?;
+        rows.push(Numbered {
+            number: first + numbered.number,
+            row,
+        })?;
+    }
+    Ok(())
 }
 
-fn tables_of(alloc: Global, immutables: &[Immutable]) -> Result<Vec<Table>, OutOfMemory>
-    ensures { IfOk result (λ tables. tables.items ≡ map table_of immutables.now) }
+// The rows of all memtables, each with the number of its write.
+fn all_rows(alloc: Global, immutables: &[Immutable]) -> Result<Vec<Numbered>, OutOfMemory>
+    requires { AllByRecursion (λ it. it.from + length it.rows.rows < 2 ^ 64) immutables.now }
+    ensures { IfOk result (λ rows. IsPermutation (numbered_all immutables.now) rows.items) }
 {
-    let mut tables = Vec::new(alloc);
+    let mut rows = Vec::new(alloc);
     for it in immutables {
-        tables.push(table_of(alloc, it)?)?;
+        append_rows(&mut rows, it.rows.rows(), it.from)?;
     }
-    Ok(tables)
+    Ok(rows)
 }
 
 // Puts the bytes under the number.
@@ -56,12 +68,12 @@ impl Parts {
         requires { IsDueAs file.now self.now }
         ensures { IfOk result (λ text. IsFileText self.now.journal.items 0 file.now text.items) }
     {
-        let tables = tables_of(self.alloc, self.immutables.as_slice())?;
-        let table = merge(self.alloc, tables.as_slice(), false)?;
+        let rows = all_rows(self.alloc, self.immutables.as_slice())?;
+        let table = build(self.alloc, &rows, file.from, file.to, Bottom::plain())?;
         encode(self.alloc, &table)
     }
 
-    /// Writes the file: the newest row of each key in the immutable memtables. Where the directory fails, the file
+    /// Writes the file: of each key the newest row in the immutable memtables. Where the directory fails, the file
     /// of that number is absent or holds any bytes.
     pub fn write_out<D: Dir>(&self, dir: &mut D, file: &FileMeta) -> Result<(), Refusal>
         requires { IsDueAs file.now self.now }

@@ -1,7 +1,7 @@
 // The parts of the store.
 use crate::immutables::Immutable;
 use std::alloc::Global;
-use sv_cells::Memtables;
+use sv_cells::MemtableRegister;
 use sv_files::FileBook;
 use sv_imm::ImmLists;
 use sv_memtable::MemCell;
@@ -16,7 +16,7 @@ pub(crate) struct Parts {
     pub is_open: bool,
     pub journal: Vec<Write>,
     pub registry: Registry,
-    pub memtables: Memtables,
+    pub memtables: MemtableRegister,
     pub lists: ImmLists,
     pub versions: Versions,
     pub files: FileBook,

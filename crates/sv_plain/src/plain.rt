@@ -11,7 +11,8 @@ ghost use Rattle.sv_model.specs.Files.{Files};
 ghost use Rattle.sv_plain.specs.Alone.{IsAlone};
 ghost use Rattle.sv_plain.specs.Closed.{EndsAs, IsClosed};
 ghost use Rattle.sv_plain.specs.Due.{FlushMoment, flush_fault, ReadMoment, WriteMoment, fault_of, is_switch_due, write_fault};
-ghost use Rattle.sv_plain.specs.Held.{Both, GoneAreAbsent, Holds, OthersStay};
+ghost use Rattle.sv_model.specs.HeldFiles.{GoneAreAbsent, OthersStay};
+ghost use Rattle.sv_plain.specs.Held.{Both, Holds};
 ghost use Rattle.sv_plain.specs.Settled.{ChangesNothing, IsAfterSwitch, IsFlushed, IsStopped, IsWritten};
 ghost use Rattle.sv_plain.specs.Store.{IsNumberedFrom, IsOpen, last_files, write_count};
 

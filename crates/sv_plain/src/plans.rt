@@ -1,30 +1,31 @@
 // The start of a flush: what it may meet, the switch, and the number of its file.
-ghost use Rattle.std.specs.Prelude.{◌≡◌, ◌+◌, ◌<◌, ◌^◌, ◌∷◌, [], None, Some, cond, IfOk, IfErr, OnOk, OnErr, false};
+ghost use Rattle.std.specs.Prelude.{◌≡◌, ◌+◌, ◌<◌, ◌^◌, ◌∷◌, [], None, Some, cond, IfOk, IfErr, OnOk, OnErr};
 ghost use Rattle.sv_model.specs.declared.Refusal.TheVariants.{RegisterFull};
 ghost use Rattle.sv_plain.specs.Follows.{Follows};
 ghost use Rattle.sv_model.specs.Refusals.{RefusesExactly, first_due};
-ghost use Rattle.sv_cells.specs.Calls.{memtables_fault};
+ghost use Rattle.sv_cells.specs.Calls.{memtables_refusal};
 ghost use Rattle.sv_files.specs.Calls.{capture_fault};
-ghost use Rattle.sv_registry.specs.Calls.{make_fault};
+ghost use Rattle.sv_registry.specs.Calls.{make_refusal};
 ghost use Rattle.sv_plain.specs.Due.{FlushMoment, all_live_fault, all_made_fault, fault_of, flush_fault, has_rows, nothing_fault, only_if};
 ghost use Rattle.sv_plain.specs.Prepared.{Began, IsMemory, Prepared};
 ghost use Rattle.sv_plain.specs.Settled.{IsStopped};
 ghost use Rattle.sv_plain.specs.Store.{active_rows, immutable_count};
 ghost use Rattle.sv_plain.specs.Views.{Runs, books_of};
+ghost use Rattle.sv_model.specs.Flat.{plain};
 
 use crate::parts::Parts;
-use sv_model::{FamilyId, FileMeta, FileNumber, Refusal};
+use sv_model::{Bottom, FamilyId, FileMeta, FileNumber, Refusal};
 
 // The file of this number with the writes from `from + 1` to `to`. A flush never leaves deletes out.
 fn file_over(number: u64, from: u64, to: u64) -> FileMeta
-    ensures is { result ≡ record { number = number; from = from; to = to; bottom = false } }
+    ensures is { result ≡ record { number = number; from = from; to = to; bottom = plain } }
     ensures fits { result.number < 2 ^ 64 }
 {
     FileMeta {
         number: FileNumber(number),
         from,
         to,
-        bottom: false,
+        bottom: Bottom::plain(),
     }
 }
 
@@ -39,7 +40,7 @@ impl Parts {
     // Tests what the switch of a flush may meet.
     fn plan_switch(&self) -> Result<(), Refusal>
         ensures faultless { fault_of result ≡ 0 }
-        ensures refused { RefusesExactly (first_due (all_made_fault (books_of self.now) ∷ memtables_fault self.now.memtables ∷ all_live_fault (books_of self.now) ∷ [])) result }
+        ensures refused { RefusesExactly (first_due (all_made_fault (books_of self.now) ∷ memtables_refusal self.now.memtables ∷ all_live_fault (books_of self.now) ∷ [])) result }
     {
         if self.all_made() {
             return Err(Refusal::RegisterFull);
@@ -111,7 +112,7 @@ impl Parts {
         let Ok(()) = self.metas.reserve(1) else {
             return Err(Refusal::OutOfMemory);
         };
-        let _ = self.files.next();
+        self.files.laws();
         let number = self.files.capture(FamilyId(0))?.0;
         let (from, to) = (self.reach, self.base);
         self.metas.push_reserved(file_over(number, from, to));

@@ -79,7 +79,8 @@ impl Parts {
         ensures { IfOk result (λ s. s ≡ summary_of end (books_of self.now)) }
     {
         let families = self.lines()?;
-        let left = self.files.left(self.alloc)?;
+        self.files.laws();
+        let left = self.files.obsolete()?;
         Ok(Summary {
             families,
             made: self.made(),

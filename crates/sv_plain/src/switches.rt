@@ -1,8 +1,8 @@
 // A switch: the active memtable becomes immutable, and a new one is active.
 ghost use Rattle.std.specs.Prelude.{◌≡◌, ◌<◌, ◌∷◌, [], IfOk, OnOk, OnErr, length};
 ghost use Rattle.sv_model.specs.Refusals.{Refuses, first_due};
-ghost use Rattle.sv_cells.specs.Calls.{memtables_fault};
-ghost use Rattle.sv_registry.specs.Calls.{make_fault};
+ghost use Rattle.sv_cells.specs.Calls.{memtables_refusal};
+ghost use Rattle.sv_registry.specs.Calls.{make_refusal};
 ghost use Rattle.sv_plain.specs.Store.{active_rows};
 ghost use Rattle.sv_plain.specs.Switched.{IsFrozenActive, IsSwitched};
 ghost use Rattle.sv_plain.specs.Views.{Runs, books_of};
@@ -31,7 +31,7 @@ impl Parts {
     pub fn switch(&mut self) -> Result<(), Refusal>
         requires runs { Runs self.old }
         requires rows { 0 < active_rows (books_of self.old) }
-        ensures refused { Refuses (first_due (memtables_fault self.old.memtables ∷ make_fault self.old.registry ∷ [])) result }
+        ensures refused { Refuses (first_due (memtables_refusal self.old.memtables ∷ make_refusal self.old.registry ∷ [])) result }
         ensures runs { Runs self.new }
         ensures journal { self.new.journal ≡ self.old.journal }
         ensures files { self.new.files ≡ self.old.files }

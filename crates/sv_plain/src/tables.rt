@@ -1,21 +1,23 @@
 // Looking up a key in table files, the newest first.
-ghost use Rattle.std.specs.Prelude.{◌≡◌, ◌≤◌, ℕ, Bool, false, List, Option, Some, IfOk, IfErr, MatchOption, option_and_then};
-ghost use Rattle.std.specs.Option.{option_map};
+ghost use Rattle.std.specs.Prelude.{◌≡◌, ◌≤◌, ◌-◌, ◌^◌, ℕ, List, Option, Some, IfOk, IfErr, IsOk, MatchOption, option_and_then};
 ghost use Rattle.sv_model.specs.declared.Write.{Write};
-ghost use Rattle.sv_model.specs.declared.Row.{Row};
+ghost use Rattle.sv_model.specs.declared.Kept.{Kept};
 ghost use Rattle.sv_model.specs.Faults.{RoseBy};
-ghost use Rattle.sv_model.specs.Flat.{Ascends, range_of, row_at};
+ghost use Rattle.sv_model.specs.Files.{Files, file_of};
+ghost use Rattle.sv_model.specs.Flat.{range_of, plain};
+ghost use Rattle.sv_model.specs.HeldFiles.{HoldsText};
 ghost use Rattle.sv_model.specs.Journal.{newest_op, value_of};
 ghost use Rattle.sv_model.specs.Ranges.{FilesJoin};
-ghost use Rattle.sv_model.specs.TableText.{HasText, table_text};
-ghost use Rattle.sv_model.specs.Files.{Files, file_of};
+ghost use Rattle.sv_model.specs.TableText.{IsStoredOp, IsTableFile, IsTextOf};
+ghost use Rattle.sv_table.specs.Lookups.{IsFoundIn};
+ghost use Rattle.sv_table.specs.Views.{op_is};
 ghost use Rattle.sv_plain.specs.Due.{fault_of};
-ghost use Rattle.sv_plain.specs.Lookups.{ReadFault, BytesFault, FilesFault, Gives, GivesAs, GivesTable, GivesFlat, HasRange, HoldsText, HoldEach};
+ghost use Rattle.sv_plain.specs.Lookups.{ReadFault, BytesFault, FilesFault, Gives, GivesAs, HasRange, HoldEach};
 
 use std::alloc::Global;
 use sv_dir::{Dir, DirError, Found};
 use sv_model::{FileMeta, FileNumber, Key, Op, OutOfMemory, Refusal, Value};
-use sv_table::{DecodeError, Table, decode};
+use sv_table::{Head, Hit, check, find_in};
 
 // The bytes of the file; a file that is absent is bad at its beginning.
 fn read_bytes<D: Dir>(dir: &mut D, number: FileNumber) -> Result<Vec<u8>, Refusal>
@@ -36,78 +38,66 @@ fn read_bytes<D: Dir>(dir: &mut D, number: FileNumber) -> Result<Vec<u8>, Refusa
     }
 }
 
-// The table whose text these bytes of the file are.
-fn decoded(alloc: Global, number: FileNumber, bytes: &[u8]) -> Result<Table, Refusal>
-    ensures only { (from to : ℕ) (bottom : Bool) (rows : List Row) → HasText from to bottom rows → bytes.now ≡ table_text from to bottom rows → GivesTable from to bottom rows result }
-    ensures refused { IfErr result (BytesFault number) }
+// The offset in the text of the first of the head's fields that is not the file's.
+fn other_field(head: &Head, file: &FileMeta) -> Option<u64>
+    ensures { MatchOption result (HasRange file.now head.now) (λ _. HasRange file.now head.now → ⊥) }
 {
-    match decode(alloc, bytes) {
-        Ok(table) => Ok(table),
-        Err(DecodeError::Bad { place }) => Err(Refusal::BadFile {
-            number: number.0,
-            place,
-        }),
-        Err(DecodeError::OutOfMemory) => Err(Refusal::OutOfMemory),
-    }
-}
-
-// The place in the text of the first of the range's fields that is not the file's.
-fn other_range(table: &Table, file: &FileMeta) -> Option<u64>
-    ensures { MatchOption result (HasRange file.now table.now) (λ _. HasRange file.now table.now → ⊥) }
-{
-    if table.from != file.from {
+    if head.from != file.from {
         return Some(8);
     }
-    if table.to != file.to {
+    if head.to != file.to {
         return Some(16);
     }
-    if table.bottom != file.bottom {
+    if head.bottom.last != file.bottom.last {
         return Some(24);
+    }
+    if head.bottom.cuts != file.bottom.cuts {
+        return Some(25);
     }
     None
 }
 
-// The table, if it is over the file's range.
-fn checked(table: Table, file: &FileMeta) -> Result<Table, Refusal>
-    ensures same { IfOk result (λ t. t ≡ table) }
-    ensures range { IfOk result (HasRange file.now) }
-    ensures good { HasRange file.now table → Gives table result }
+// Whether the bytes are a table's text over the file's range.
+fn check_bytes(file: &FileMeta, bytes: &[u8]) -> Result<(), Refusal>
+    ensures text { IfOk result (λ _. IsTableFile bytes.now) }
+    ensures good { (rows : List Kept) → IsTextOf bytes.now file.now.from file.now.to file.now.bottom rows → IsOk result }
     ensures refused { IfErr result (BytesFault file.now.number) }
 {
-    match other_range(&table, file) {
-        None => Ok(table),
-        Some(place) => Err(Refusal::BadFile {
-            number: file.number.0,
-            place,
+    let number = file.number.0;
+    match check(bytes) {
+        Err(bad) => Err(Refusal::BadFile {
+            number,
+            place: bad.place,
         }),
+        Ok(head) => match other_field(&head, file) {
+            None => Ok(()),
+            Some(place) => Err(Refusal::BadFile { number, place }),
+        },
     }
 }
 
-/// The table of the file. Refused as `DirFault` where the directory fails at it, and as `BadFile` where it is absent
-/// or no table, or is over another range.
-pub(crate) fn read_table<D: Dir>(
-    alloc: Global,
-    dir: &mut D,
-    file: &FileMeta,
-) -> Result<Table, Refusal>
-    ensures flat { (files : Files) (journal : List Write) (family : ℕ) → D.files dir.old ≡ Some files → HoldsText files journal family file.now → GivesFlat journal family file.now result }
-    ensures range { IfOk result (HasRange file.now) }
-    ensures refused { IfErr result (ReadFault file.now.number) }
-    ensures same { D.files dir.new ≡ D.files dir.old }
-    ensures later { D.faults dir.old ≤ D.faults dir.new }
-    ensures faults { RoseBy (fault_of result) (D.faults dir.old) (D.faults dir.new) }
+// A copy of what was found.
+fn op_of(alloc: Global, hit: &Hit<'_>) -> Result<Op, OutOfMemory>
+    requires { IsStoredOp (op_is hit.now) }
+    ensures { IfOk result (λ op. op ≡ op_is hit.now) }
 {
-    let bytes = read_bytes(dir, file.number)?;
-    let table = decoded(alloc, file.number, bytes.as_slice())?;
-    checked(table, file)
+    match hit {
+        Hit::Delete => Ok(Op::Delete),
+        Hit::Put(value) => match Value::new(alloc, value) {
+            Ok(value) => Ok(Op::Put(value)),
+            Err(Refusal::OutOfMemory) => Err(OutOfMemory),
+            Err(_) => unreachable!(),
+        },
+    }
 }
 
-// A copy of what the table's row of the key does.
-fn op_in(table: &Table, key: &Key) -> Result<Option<Op>, OutOfMemory>
-    ensures { Ascends table.now.rows → IfOk result (λ op. op ≡ option_map (λ row. row.op) (row_at key.now table.now.rows)) }
+// A copy of what the table of which the bytes are a text has of the key.
+fn op_in(alloc: Global, bytes: &[u8], key: &Key) -> Result<Option<Op>, OutOfMemory>
+    requires { IsTableFile bytes.now }
+    ensures { IfOk result (λ op. IsFoundIn bytes.now key.now (2 ^ 64 - 1) op) }
 {
-    match table.find(key) {
-        Some(op) => Ok(Some(op.clone()?)),
+    match find_in(bytes, key, u64::MAX) {
+        Some(hit) => Ok(Some(op_of(alloc, &hit)?)),
         None => Ok(None),
     }
 }
@@ -119,14 +109,15 @@ fn find_in_file<D: Dir>(
     file: &FileMeta,
     key: &Key,
 ) -> Result<Option<Op>, Refusal>
-    ensures op { (files : Files) (journal : List Write) (family : ℕ) → D.files dir.old ≡ Some files → HoldsText files journal family file.now → file.now.bottom ≡ false → Gives (newest_op key.now (range_of journal family file.now.from file.now.to)) result }
+    ensures op { (files : Files) (journal : List Write) (family : ℕ) → D.files dir.old ≡ Some files → HoldsText files journal family file.now → file.now.bottom ≡ plain → Gives (newest_op key.now (range_of journal family file.now.from file.now.to)) result }
     ensures refused { IfErr result (ReadFault file.now.number) }
     ensures same { D.files dir.new ≡ D.files dir.old }
     ensures later { D.faults dir.old ≤ D.faults dir.new }
     ensures faults { RoseBy (fault_of result) (D.faults dir.old) (D.faults dir.new) }
 {
-    let table = read_table(alloc, dir, file)?;
-    Ok(op_in(&table, key)?)
+    let bytes = read_bytes(dir, file.number)?;
+    check_bytes(file, bytes.as_slice())?;
+    Ok(op_in(alloc, bytes.as_slice(), key)?)
 }
 
 fn value_of(op: Op) -> Option<Value>

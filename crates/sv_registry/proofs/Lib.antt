@@ -1,4 +1,2 @@
-mod Making
 mod PartLemmas
 mod Packs
-mod TakingBack

@@ -4,34 +4,39 @@ use Rattle.sv_model.specs.declared.records.SuperVersion.{SuperVersion}
 use Rattle.sv_model.specs.declared.records.Descriptor.{Descriptor}
 use Rattle.sv_model.specs.declared.refusals.Refusal.{Refusal}
 use Rattle.sv_model.specs.declared.refusals.Refusal.TheVariants.{RegisterFull, TooManyLive}
-use Rattle.sv_model.specs.Registers.{entry, change, Has}
-use Rattle.sv_model.specs.Places.{live_count, IsLeastFree}
+use Rattle.sv_model.specs.Registers.{entry, Has, IsLiveEntry}
+use Rattle.sv_model.specs.Places as model
+use Rattle.sv_model.specs.Places.{live_count, IsLeastFree, HavePlaces, super_live, place_of, gone_super}
 use Rattle.sv_registry.specs.declared.registry.Freed.{Freed}
 use Rattle.sv_registry.specs.Names.{UsesMemtable, UsesList, UsesVersion}
-use Rattle.sv_registry.specs.Laws.{is_live, place_of}
 
 -- the refusal that is due where 256 are Live
-abbrev pub full_fault : List SuperVersion → Option Refusal
-full_fault supers = cond (nat_le 256 (live_count is_live supers)) (Some TooManyLive) None
+abbrev pub full_refusal : List SuperVersion → Option Refusal
+full_refusal supers = cond (nat_le 256 (live_count super_live supers)) (Some TooManyLive) None
 
 -- the refusal that making a SuperVersion meets: 1,048,576 were made, or 256 are Live
-abbrev pub make_fault : List SuperVersion → Option Refusal
-make_fault supers = cond (nat_le 1048576 (length supers)) (Some RegisterFull) (full_fault supers)
+abbrev pub make_refusal : List SuperVersion → Option Refusal
+make_refusal supers = cond (nat_le 1048576 (length supers)) (Some RegisterFull) (full_refusal supers)
 
 -- A Live SuperVersion with this descriptor is made at the least free place, under the next serial.
 pub record IsMade (old : List SuperVersion) (descriptor : Descriptor) (pack : ℕ) (new : List SuperVersion) : Type 0 where
   pub place : ℕ
   pub within : place < 256
-  pub least : IsLeastFree is_live place_of old place
+  pub least : IsLeastFree super_live place_of old place
   pub made : new ≡ old ++ record { descriptor = descriptor; place = place; live = true } ∷ []
   pub pack_is : pack ≡ (length old + 1) * 256 + place
 
+-- Each Live SuperVersion has a place of its own, below 256.
+abbrev pub HaveOwnPlaces : List SuperVersion → Type 0
+HaveOwnPlaces = HavePlaces super_live place_of 256
+
 -- the SuperVersion made last is Live
-pub record IsJustMade (supers : List SuperVersion) : Type 0 where
-  pub before : List SuperVersion
-  pub it : SuperVersion
-  pub made : supers ≡ before ++ it ∷ []
-  pub live : it.live ≡ true
+abbrev pub IsJustMade : List SuperVersion → Type 0
+IsJustMade = model.IsJustMade super_live
+
+-- the SuperVersion of this serial is Live
+abbrev pub IsLiveSuper : List SuperVersion → ℕ → Type 0
+IsLiveSuper = IsLiveEntry super_live
 
 -- the pack is that of a Live SuperVersion, whose serial and record these are
 pub record IsLivePack (supers : List SuperVersion) (pack : ℕ) : Type 0 where
@@ -43,10 +48,8 @@ pub record IsLivePack (supers : List SuperVersion) (pack : ℕ) : Type 0 where
   pub pack_is : pack ≡ serial * 256 + it.place
 
 -- The Live SuperVersion of this serial is Gone, and nothing else changed.
-pub record IsEnded (old : List SuperVersion) (serial : ℕ) (it : SuperVersion) (new : List SuperVersion) : Type 0 where
-  pub at : entry old serial ≡ Some it
-  pub live : it.live ≡ true
-  pub gone : new ≡ change old serial (record it { live = false })
+abbrev pub IsEnded : List SuperVersion → ℕ → SuperVersion → List SuperVersion → Type 0
+IsEnded = model.IsEnded super_live gone_super
 
 -- A part is freed exactly where it is not named any more.
 abbrev pub Frees : Type 0 → ℕ → Option ℕ → Type 0

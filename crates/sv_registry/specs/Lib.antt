@@ -1,4 +1,3 @@
 pub mod Calls
-pub mod Laws
 pub mod Names
 pub mod Parts

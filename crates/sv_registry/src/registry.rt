@@ -1,48 +1,41 @@
 // The registry: every SuperVersion ever made, and by place the Live one that stands there.
-ghost use Rattle.std.specs.Prelude.{◌≡◌, ◌+◌, ◌*◌, ◌∷◌, ◌++◌, [], ◌<◌, ◌↔◌, length, count_by, not, true, IsTrue, IsSomeAnd, IfOk, OnErr, Some, None, cond, nat_le};
+ghost use Rattle.std.specs.Prelude.{◌≡◌, ◌+◌, ◌*◌, ◌∷◌, ◌++◌, [], ◌<◌, ◌↔◌, length, count_by, not, true, IsTrue, IfOk, OnErr, Some, None, cond, nat_le};
 ghost use Rattle.std.specs.Option.{option_copied, option_map};
 ghost use Rattle.sv_model.specs.declared.records.SuperVersion.{SuperVersion};
 ghost use Rattle.sv_model.specs.declared.refusals.Refusal.TheVariants.{RegisterFull, TooManyLive};
 ghost use Rattle.sv_model.specs.Refusals.{Refuses};
 ghost use Rattle.sv_model.specs.Registers.{entry, Has};
-ghost use Rattle.sv_model.specs.Places.{Housed};
-ghost use Rattle.sv_registry.specs.Laws.{is_live, place_of};
 ghost use Rattle.sv_registry.specs.Names.{UsesMemtable, UsesList, UsesVersion};
 ghost use Rattle.sv_registry.specs.Parts.{NamesPart};
-ghost use Rattle.sv_registry.specs.Calls.{IsJustMade, IsLivePack, IsMade, IsReclaimed, IsEnded, Frees, full_fault, make_fault};
+ghost use Rattle.sv_registry.specs.Calls.{HaveOwnPlaces, IsJustMade, IsLivePack, IsMade, IsReclaimed, IsEnded, IsLiveSuper, Frees, full_refusal, make_refusal};
 
 use crate::parts::{Part, is_named};
 use std::alloc::Global;
 use std::marker::Model;
 use sv_model::{
-    Descriptor, ListId, MemId, Pack, Refusal, SuperVersion, SvSerial, VersionId, least_free,
+    Descriptor, ListId, MemId, Pack, PlacedRegister, Refusal, SuperVersion, SvSerial, VersionId,
 };
 
 /// How many SuperVersions are made at most.
-pub const GREATEST_MADE: usize = 1_048_576;
+pub const MAX_MADE: u64 = 1_048_576;
 
 /// How many SuperVersions are Live at most: each has a place of its own.
-pub const GREATEST_LIVE: usize = 256;
+pub const MAX_LIVE: usize = 256;
 
 /// Every SuperVersion ever made, by its serial, which is never used again. Contracts see the list of
 /// their records.
 #[derive(Drop)]
 pub struct Registry {
-    records: Vec<SuperVersion>,
-    /// By place, the serial of the Live SuperVersion there, or 0.
-    places: [u32; GREATEST_LIVE],
+    supers: PlacedRegister<SuperVersion, MAX_LIVE>,
 }
 
 impl Model for Registry {
     ghost use Rattle.std.specs.Prelude.{List};
     ghost use Rattle.sv_model.specs.declared.records.SuperVersion.{SuperVersion};
-    ghost use Rattle.sv_registry.specs.Laws.{IsRegistry};
 
     ghost Value = { List SuperVersion };
 
-    ghost view = { λ r. r.records.items };
-
-    ghost invariant = { λ r. IsRegistry r.records.items r.places };
+    ghost view = { λ r. r.supers };
 }
 
 /// What a reclaimed SuperVersion alone named.
@@ -53,21 +46,13 @@ pub struct Freed {
     pub version: Option<VersionId>,
 }
 
-fn free_places() -> [u32; GREATEST_LIVE]
-    ensures wide { length result ≡ 256 }
-    ensures housed { Housed is_live place_of [] result }
-{
-    [0; GREATEST_LIVE]
-}
-
 impl Registry {
     /// No SuperVersion. Takes no memory.
     pub fn new(alloc: Global) -> Registry
         ensures { result ≡ [] }
     {
         Registry {
-            records: Vec::new(alloc),
-            places: free_places(),
+            supers: PlacedRegister::new(alloc),
         }
     }
 
@@ -75,8 +60,7 @@ impl Registry {
     pub fn record(&self, serial: SvSerial) -> Option<&SuperVersion>
         ensures { option_copied result ≡ entry self.now serial }
     {
-        let index = (serial.0 as usize).checked_sub(1)?;
-        self.records.as_slice().get(index)
+        self.supers.record(serial.0)
     }
 
     /// What the SuperVersion with this serial names; none exactly where it was never made.
@@ -104,14 +88,14 @@ impl Registry {
     pub fn made(&self) -> u64
         ensures { result ≡ length self.now }
     {
-        self.records.len() as u64
+        self.supers.made()
     }
 
-    /// How many SuperVersions are Gone. Looks at each that was ever made. Takes no memory.
+    /// How many SuperVersions are Gone. Looks at the places alone. Takes no memory.
     pub fn gone(&self) -> u64
         ensures { result ≡ count_by (λ s. not s.live) self.now }
     {
-        self.records.iter().filter(|record| !record.live).count() as u64
+        self.supers.gone()
     }
 
     /// Makes a SuperVersion of this descriptor, Live, under the next serial and at the least free
@@ -119,36 +103,32 @@ impl Registry {
     /// Live; a refusal leaves the registry as it was.
     pub fn make(&mut self, descriptor: Descriptor) -> Result<Pack, Refusal>
         ensures made { IfOk result (λ pack. IsMade self.old descriptor pack self.new) }
-        ensures refused { Refuses (make_fault self.old) result }
+        ensures refused { Refuses (make_refusal self.old) result }
         ensures kept { OnErr result (self.new ≡ self.old) }
+        ensures places { HaveOwnPlaces self.new }
     {
-        if self.records.len() >= GREATEST_MADE {
+        if self.supers.made() >= MAX_MADE {
             return Err(Refusal::RegisterFull);
         }
-        let Some(place) = least_free(&self.places) else {
+        let Some(place) = self.supers.room() else {
             return Err(Refusal::TooManyLive);
         };
+        let place = place as u8;
         let record = SuperVersion {
             descriptor,
-            place: place as u8,
+            place,
             live: true,
         };
-        if self.records.push(record).is_err() {
-            return Err(Refusal::OutOfMemory);
-        }
-        let serial = self.records.len() as u32;
-        self.places[place] = serial;
-        Ok(Pack {
-            serial: SvSerial(serial),
-            place: place as u8,
-        })
+        let serial = SvSerial(self.supers.add(record)?);
+        Ok(Pack { serial, place })
     }
 
     /// Ends the Live SuperVersion of this pack: it is Gone and its place free. Gives what it named and no
     /// other Live one names. Takes no memory.
     pub fn reclaim(&mut self, pack: Pack) -> Freed
         requires { IsLivePack self.old pack }
-        ensures { IsReclaimed self.old pack result self.new }
+        ensures reclaimed { IsReclaimed self.old pack result self.new }
+        ensures places { HaveOwnPlaces self.new }
     {
         let descriptor = self.end(pack.serial);
         Freed {
@@ -162,36 +142,31 @@ impl Registry {
     /// place is free. Takes no memory.
     pub fn take_back(&mut self)
         requires { IsJustMade self.old }
-        ensures { (s : SuperVersion) × (self.old ≡ self.new ++ s ∷ []) }
+        ensures undone { (s : SuperVersion) × (self.old ≡ self.new ++ s ∷ []) }
+        ensures places { HaveOwnPlaces self.new }
     {
-        if let Some(last) = self.records.pop() {
-            self.places[last.place as usize] = 0;
-        }
+        self.supers.take_back();
     }
 
     fn stands(&self, serial: SvSerial, place: u8) -> bool
         ensures { IsTrue result ↔ IsLivePack self.now (serial * 256 + place) }
     {
-        if serial.0 == 0 {
-            return false;
-        }
-        self.places[place as usize] == serial.0
+        let here = self.supers.id_at(place as usize);
+        here != 0 && here == serial.0
     }
 
     fn end(&mut self, serial: SvSerial) -> Descriptor
-        requires { IsSomeAnd (entry self.old serial) (λ s. s.live ≡ true) }
-        ensures { (s : SuperVersion) × IsEnded self.old serial s self.new × (result ≡ s.descriptor) }
+        requires { IsLiveSuper self.old serial }
+        ensures ended { (s : SuperVersion) × IsEnded self.old serial s self.new × (result ≡ s.descriptor) }
+        ensures places { HaveOwnPlaces self.new }
     {
-        let record = &mut self.records[serial.0 as usize - 1];
-        record.live = false;
-        self.places[record.place as usize] = 0;
-        record.descriptor
+        self.supers.end(serial.0).descriptor
     }
 
     fn names(&self, part: &Part) -> bool
         ensures { IsTrue result ↔ Has (NamesPart part.now) self.now }
     {
-        is_named(self.records.as_slice(), &self.places, part)
+        is_named(&self.supers, part)
     }
 
     fn freed_active(&self, mem: MemId) -> Option<MemId>
@@ -223,15 +198,15 @@ impl Registry {
 
     /// Whether 256 are Live, so that no place is free. Looks at the places alone.
     pub fn is_full(&self) -> bool
-        ensures { full_fault self.now ≡ cond result (Some TooManyLive) None }
+        ensures { full_refusal self.now ≡ cond result (Some TooManyLive) None }
     {
-        least_free(&self.places).is_none()
+        self.supers.room().is_none()
     }
 
     /// Whether 1,048,576 were made, so that no serial is left.
     pub fn all_made(&self) -> bool
-        ensures { make_fault self.now ≡ cond result (Some RegisterFull) (full_fault self.now) }
+        ensures { make_refusal self.now ≡ cond result (Some RegisterFull) (full_refusal self.now) }
     {
-        self.records.len() >= GREATEST_MADE
+        self.supers.made() >= MAX_MADE
     }
 }

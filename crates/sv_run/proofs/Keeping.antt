@@ -14,7 +14,8 @@ use Rattle.sv_model.specs.After.{KeepsNumber}
 use Rattle.sv_model.specs.Faults.{RoseBy}
 use Rattle.sv_model.specs.Files.{Files, file_name}
 use Rattle.sv_script.specs.Answered.{Answered}
-use Rattle.sv_plain.specs.Held.{Both, Holds, OthersStay}
+use Rattle.sv_model.specs.HeldFiles.{OthersStay}
+use Rattle.sv_plain.specs.Held.{Both, Holds}
 use Rattle.sv_plain.specs.Store.{IsNumberedFrom, IsOpen, last_files, top_of, write_count}
 use Rattle.sv_run.specs.Steps.{Knows}
 use Rattle.sv_run.proofs.Lasting.{goes_on-length, count-later}

@@ -11,9 +11,10 @@ use Rattle.sv_model.specs.Files.{Files}
 use Rattle.sv_script.specs.declared.Command.TheVariants as command
 use Rattle.sv_script.specs.declared.Reply.TheVariants as reply
 use Rattle.sv_script.specs.Answered.{Answered, handle_of, seen, flushed, fault_by}
-use Rattle.sv_script.specs.ReplyLaw.{due, handle_fault, WriteMet, ReadMet, FlushMet}
+use Rattle.sv_script.specs.ReplyLaw.{due, handle_refusal, WriteMet, ReadMet, FlushMet}
 use Rattle.sv_plain.specs.Due.{WriteMoment, ReadMoment, FlushMoment, fault_of}
-use Rattle.sv_plain.specs.Held.{Holds, OthersStay}
+use Rattle.sv_model.specs.HeldFiles.{OthersStay}
+use Rattle.sv_plain.specs.Held.{Holds}
 use Rattle.sv_plain.specs.Store.{last_files, write_count}
 use Rattle.sv_run.specs.States.{State, state_of, IsReady}
 use Rattle.sv_run.specs.Steps.{Steps}
@@ -34,7 +35,7 @@ write_met new later earlier refusal.OutOfMemory far after m = inl refl
 write_met new later earlier e far after m = absurd m
 
 -- a moment of the family 0 is one of the family that the lane has a handle of
-met_through : (earlier : List Answered) (family : List ℕ) (e : Refusal) (P : ℕ → Type 0) → handle_fault (handle_of earlier family) ≡ None → (e ≡ refusal.OutOfMemory) ⊎ P 0 → (e ≡ refusal.OutOfMemory) ⊎ IsSomeAnd (handle_of earlier family) P
+met_through : (earlier : List Answered) (family : List ℕ) (e : Refusal) (P : ℕ → Type 0) → handle_refusal (handle_of earlier family) ≡ None → (e ≡ refusal.OutOfMemory) ⊎ P 0 → (e ≡ refusal.OutOfMemory) ⊎ IsSomeAnd (handle_of earlier family) P
 met_through earlier family e P h (inl is) = inl is
 met_through earlier family e P h (inr p) = inr (through earlier family P h p)
 

@@ -6,7 +6,7 @@ use Rattle.sv_model.specs.Journal.{change_of}
 use Rattle.sv_script.specs.declared.Line.{Line}
 use Rattle.sv_script.specs.declared.Reply.{Reply}
 use Rattle.sv_script.specs.Answered.{answered}
-use Rattle.sv_plain.specs.Held.{OthersStay}
+use Rattle.sv_model.specs.HeldFiles.{OthersStay}
 use Rattle.sv_run.specs.States.{State, IsReady}
 use Rattle.sv_run.specs.Steps.{Steps}
 use Rattle.sv_run.specs.Told.{Told, Played}

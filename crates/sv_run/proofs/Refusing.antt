@@ -14,8 +14,8 @@ use Rattle.sv_script.specs.declared.Command.{Command}
 use Rattle.sv_script.specs.declared.Command.TheVariants as command
 use Rattle.sv_script.specs.declared.Reply.TheVariants as reply
 use Rattle.sv_script.specs.Answered.{Answered, handle_of, change_asked, fault_by}
-use Rattle.sv_script.specs.ReplyLaw.{due, handle_fault, Refused, Met, ReplyFits}
-use Rattle.sv_plain.specs.Held.{OthersStay}
+use Rattle.sv_script.specs.ReplyLaw.{due, handle_refusal, Refused, Met, ReplyFits}
+use Rattle.sv_model.specs.HeldFiles.{OthersStay}
 use Rattle.sv_plain.specs.Store.{IsNumberedFrom}
 use Rattle.sv_run.specs.States.{State, IsReady, LeavesOthers}
 use Rattle.sv_run.specs.Steps.{Knows, Steps}
@@ -85,20 +85,20 @@ calm_first : (d : Option Refusal) (ds : List (Option Refusal)) → faults_due d 
 calm_first None ds here rest = rest
 calm_first (Some e) ds here rest = here
 
-calm_handle : (family : Option ℕ) → faults_due (handle_fault family) ≡ 0
+calm_handle : (family : Option ℕ) → faults_due (handle_refusal family) ≡ 0
 calm_handle None = refl
 calm_handle (Some family) = refl
 
-calm_family : (family : List ℕ) → faults_due (first_due (handle_fault (handle_of [] family) ∷ [])) ≡ 0
-calm_family family = calm_first (handle_fault (handle_of [] family)) [] (calm_handle (handle_of [] family)) refl
+calm_family : (family : List ℕ) → faults_due (first_due (handle_refusal (handle_of [] family) ∷ [])) ≡ 0
+calm_family family = calm_first (handle_refusal (handle_of [] family)) [] (calm_handle (handle_of [] family)) refl
 
-calm_key : (family key : List ℕ) → faults_due (first_due (key_fault (length key) ∷ handle_fault (handle_of [] family) ∷ [])) ≡ 0
-calm_key family key = calm_first (key_fault (length key)) (handle_fault (handle_of [] family) ∷ []) (calm_cond _ (refusal.KeyLength (length key)) refl) (calm_family family)
+calm_key : (family key : List ℕ) → faults_due (first_due (key_fault (length key) ∷ handle_refusal (handle_of [] family) ∷ [])) ≡ 0
+calm_key family key = calm_first (key_fault (length key)) (handle_refusal (handle_of [] family) ∷ []) (calm_cond _ (refusal.KeyLength (length key)) refl) (calm_family family)
 
 calm_put : (family key value : List ℕ) → faults_due (due [] (command.Put family key value)) ≡ 0
 calm_put family key value =
-    calm_first (key_fault (length key)) (value_fault (length value) ∷ handle_fault (handle_of [] family) ∷ []) (calm_cond _ (refusal.KeyLength (length key)) refl)
-    (calm_first (value_fault (length value)) (handle_fault (handle_of [] family) ∷ []) (calm_cond _ (refusal.ValueLength (length value)) refl) (calm_family family))
+    calm_first (key_fault (length key)) (value_fault (length value) ∷ handle_refusal (handle_of [] family) ∷ []) (calm_cond _ (refusal.KeyLength (length key)) refl)
+    (calm_first (value_fault (length value)) (handle_refusal (handle_of [] family) ∷ []) (calm_cond _ (refusal.ValueLength (length value)) refl) (calm_family family))
 
 pub put_refused : (s : State) (family key value : List ℕ) (e : Refusal) → IsReady s → IsDue (due [] (command.Put family key value)) e → Steps s s (command.Put family key value) (reply.Refused e)
 put_refused s family key value e ready is = due_steps s (command.Put family key value) e ready (calm_put family key value) is (λ earlier. refl)
@@ -118,10 +118,10 @@ flush_refused s family e ready is = due_steps s (command.Flush family) e ready (
 abbrev is_default : List ℕ → Bool
 is_default family = pointwise nat_eq family (codes "default")
 
-handled : (b : Bool) → handle_fault (cond b (Some 0) None) ≡ None → b ≡ true
+handled : (b : Bool) → handle_refusal (cond b (Some 0) None) ≡ None → b ≡ true
 handled true h = refl
 handled false h = absurd (cc)
 
 -- what is so of the family 0 is so of the one that the lane has a handle of
-pub through : (earlier : List Answered) (family : List ℕ) (P : ℕ → Type 0) → handle_fault (handle_of earlier family) ≡ None → P 0 → IsSomeAnd (handle_of earlier family) P
+pub through : (earlier : List Answered) (family : List ℕ) (P : ℕ → Type 0) → handle_refusal (handle_of earlier family) ≡ None → P 0 → IsSomeAnd (handle_of earlier family) P
 through earlier family P h p = subst (λ b. IsSomeAnd (cond b (Some 0) None) P) (sym (handled (is_default family) h)) p

@@ -12,9 +12,10 @@ use Rattle.sv_model.specs.Files.{Files}
 use Rattle.sv_script.specs.declared.Script.{Script}
 use Rattle.sv_script.specs.declared.Reply.{Reply}
 use Rattle.sv_script.specs.declared.LaneReport.{LaneReport}
-use Rattle.sv_script.specs.Answered.{answered, faults_told}
+use Rattle.sv_script.specs.Answered.{answered, dir_faults}
 use Rattle.sv_plain.specs.Closed.{EndsAs, IsClosed}
-use Rattle.sv_plain.specs.Held.{Both, GoneAreAbsent, Holds, OthersStay}
+use Rattle.sv_model.specs.HeldFiles.{GoneAreAbsent, OthersStay}
+use Rattle.sv_plain.specs.Held.{Both, Holds}
 use Rattle.sv_plain.specs.Store.{IsNumberedFrom}
 use Rattle.sv_run.specs.declared.outcomes.Done.{Done}
 use Rattle.sv_run.specs.Ends.{HasRun, LeavesFiles, faults_at_close}
@@ -84,7 +85,7 @@ has_run start now closed later faults first ended script replies lanes played ne
         closed = c.is;
         clean = clean_is ended closed now.faults faults ends;
         files = leaves_files now.books closed first start.files now.files later c told.others told.ready.held above numbered;
-        faults = rose-on (faults_told (answered script.lines replies)) (faults_at_close ended (obsolete_of closed.files.numbers)) start.faults now.faults faults told.faults (rose_at_close ended closed now.faults faults ends more);
+        faults = rose-on (dir_faults (answered script.lines replies)) (faults_at_close ended (obsolete_of closed.files.numbers)) start.faults now.faults faults told.faults (rose_at_close ended closed now.faults faults ends more);
       };
     }
 

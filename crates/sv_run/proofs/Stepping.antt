@@ -21,8 +21,9 @@ use Rattle.sv_model.specs.Files.{Files}
 use Rattle.sv_script.specs.declared.Command.TheVariants as command
 use Rattle.sv_script.specs.declared.Reply.TheVariants as reply
 use Rattle.sv_script.specs.Answered.{Answered, handle_of}
-use Rattle.sv_script.specs.ReplyLaw.{due, handle_fault, Writes, Gets, Flushes}
-use Rattle.sv_plain.specs.Held.{Both, Holds, OthersStay}
+use Rattle.sv_script.specs.ReplyLaw.{due, handle_refusal, Writes, Gets, Flushes}
+use Rattle.sv_model.specs.HeldFiles.{OthersStay}
+use Rattle.sv_plain.specs.Held.{Both, Holds}
 use Rattle.sv_plain.specs.Settled.{IsWritten, IsFlushed}
 use Rattle.sv_plain.specs.Store.{IsOpen, IsNumberedFrom, last_files, write_count}
 use Rattle.sv_run.specs.States.{State, state_of, IsReady, LeavesOthers}
@@ -31,6 +32,7 @@ use Rattle.sv_run.proofs.Following.{after-same}
 use Rattle.sv_run.proofs.Keeping.{both-same, held-on, others-same, write_count-own, numbered-same, reach_of-push, rose-none}
 use Rattle.sv_run.proofs.Lasting.{written-later, looks-later, output-later}
 use Rattle.sv_run.proofs.Refusing.{through}
+use Rattle.sv_model.specs.Flat.{plain}
 
 -- ---- writes
 
@@ -80,17 +82,17 @@ changed old new key o h =
 pub kept_others : (s : State) (new : Books) → LeavesOthers new s.files s.files
 kept_others s new = both-same (OthersStay new.files.numbers) (others-same new.files.numbers) s.files s.files refl
 
-pub handle_due : (family : List ℕ) → first_due (handle_fault (handle_of [] family) ∷ []) ≡ None → handle_fault (handle_of [] family) ≡ None
-handle_due family none = (none_due (handle_fault (handle_of [] family)) [] none).0
+pub handle_due : (family : List ℕ) → first_due (handle_refusal (handle_of [] family) ∷ []) ≡ None → handle_refusal (handle_of [] family) ≡ None
+handle_due family none = (none_due (handle_refusal (handle_of [] family)) [] none).0
 
-pub key_due : (family key : List ℕ) → first_due (key_fault (length key) ∷ handle_fault (handle_of [] family) ∷ []) ≡ None → handle_fault (handle_of [] family) ≡ None
-key_due family key none = handle_due family (none_due (key_fault (length key)) (handle_fault (handle_of [] family) ∷ []) none).1
+pub key_due : (family key : List ℕ) → first_due (key_fault (length key) ∷ handle_refusal (handle_of [] family) ∷ []) ≡ None → handle_refusal (handle_of [] family) ≡ None
+key_due family key none = handle_due family (none_due (key_fault (length key)) (handle_refusal (handle_of [] family) ∷ []) none).1
 
-pub put_due : (family key value : List ℕ) → due [] (command.Put family key value) ≡ None → handle_fault (handle_of [] family) ≡ None
+pub put_due : (family key value : List ℕ) → due [] (command.Put family key value) ≡ None → handle_refusal (handle_of [] family) ≡ None
 put_due family key value none =
     handle_due family
-    (none_due (value_fault (length value)) (handle_fault (handle_of [] family) ∷ [])
-    (none_due (key_fault (length key)) (value_fault (length value) ∷ handle_fault (handle_of [] family) ∷ []) none).1).1
+    (none_due (value_fault (length value)) (handle_refusal (handle_of [] family) ∷ [])
+    (none_due (key_fault (length key)) (value_fault (length value) ∷ handle_refusal (handle_of [] family) ∷ []) none).1).1
 
 pub put_steps : (s : State) (new : Books) (family key value : List ℕ) (n : ℕ) → IsReady s → due [] (command.Put family key value) ≡ None → Left s.books new → IsWritten s.books new key (op.Put value) → n ≡ write_count new → Steps s (state_of new s.files s.faults) (command.Put family key value) (reply.Put n)
 put_steps s new family key value n ready none left is number =
@@ -206,7 +208,7 @@ ready-turned old new ready h = record {
   held = held-on old.books new.books old.files new.files h.holds ready.held;
 }
 
-file_is : (file : FileMeta) → file.bottom ≡ false → file ≡ record { number = file.number; from = file.from; to = file.to; bottom = false }
+file_is : (file : FileMeta) → file.bottom ≡ plain → file ≡ record { number = file.number; from = file.from; to = file.to; bottom = plain }
 file_is file above = λ i. record { number = file.number; from = file.from; to = file.to; bottom = above i }
 
 flushes : (old new later : Books) (earlier : List Answered) (file : FileMeta) → IsFlushed old new file → new.journal ≡ old.journal → Knows old earlier → Follows new later → Flushes later earlier file.number file.from file.to 0
@@ -214,6 +216,7 @@ flushes old new later earlier file h journal knows after = record {
   range = h.some;
   later = omega (arith, h.all, ap (λ z. length (of_family 0 z)) journal, knows.writes);
   newer = omega (arith, h.number, knows.file);
+  cuts = [];
   output = subst (λ z. IsOutput later 0 z) (file_is file h.above) (output-later new later 0 file after h.output);
 }
 

@@ -12,9 +12,9 @@ use Rattle.sv_model.specs.Books.{Books}
 use Rattle.sv_model.proofs.Lists.{total-push}
 use Rattle.sv_script.specs.declared.Command.{Command}
 use Rattle.sv_script.specs.declared.Reply.{Reply}
-use Rattle.sv_script.specs.Answered.{Answered, accepted, change_asked, seen, newest_serial, flushed, newest_file, shown_by, serial_by, flushed_by, file_by, fault_by, faults_told}
+use Rattle.sv_script.specs.Answered.{Answered, accepted, change_asked, seen, newest_serial, flushed, newest_file, shown_by, serial_by, flushed_by, file_by, fault_by, dir_faults}
 use Rattle.sv_script.specs.ReplyLaw.{ReplyFits, CutIs}
-use Rattle.sv_plain.specs.Held.{OthersStay}
+use Rattle.sv_model.specs.HeldFiles.{OthersStay}
 use Rattle.sv_run.specs.States.{State}
 use Rattle.sv_run.specs.Steps.{Knows, IsShown, Steps}
 use Rattle.sv_run.specs.Told.{Told}
@@ -98,7 +98,7 @@ told-push start old new all c r told step =
           (others-on old.books.files.numbers new.books.files.numbers step.after.numbers) start.files old.files new.files told.others step.others;
       later = omega (arith, told.later, step.later);
       faults = subst (λ n. RoseBy n start.faults new.faults) (sym (total-push (λ (a : Answered). fault_by a.reply) all x))
-          (rose-on (faults_told all) (fault_by r) start.faults old.faults new.faults told.faults step.faults);
+          (rose-on (dir_faults all) (fault_by r) start.faults old.faults new.faults told.faults step.faults);
       knows = knows-push new.books all x (knows-later old.books new.books all told.ready.opened step.ready.opened step.after told.knows) step.shown;
       cuts = each-push (λ before a. CutIs (length (accepted before)) a.reply) all x told.cuts (subst (λ n. CutIs n r) (sym count) step.cut);
       fits = λ later after. each-push (λ before a. ReplyFits (is_some start.files) later 0 before a.command a.reply) all x

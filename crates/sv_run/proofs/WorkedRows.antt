@@ -17,6 +17,7 @@ use Rattle.sv_script.specs.Answered.{Answered}
 use Rattle.sv_script.specs.ReplyLaw.{due, ReplyFits}
 use Rattle.sv_plain.specs.Store.{default_family, first_options, top_from}
 use Rattle.sv_run.specs.RunWords.{dir_word}
+use Rattle.sv_model.specs.Flat.{plain}
 
 abbrev name : List ℕ
 name = codes "default"
@@ -48,7 +49,7 @@ super active list version base = record {
 }
 
 abbrev file : FileMeta
-file = record { number = 7; from = 0; to = 2; bottom = false }
+file = record { number = 7; from = 0; to = 2; bottom = plain }
 
 -- after close: the SuperVersion of the opening, that of the switch, and that of the flush
 abbrev books : Books

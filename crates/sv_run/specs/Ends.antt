@@ -15,13 +15,14 @@ use Rattle.sv_script.specs.declared.Script.{Script}
 use Rattle.sv_script.specs.declared.Reply.{Reply}
 use Rattle.sv_script.specs.declared.LaneReport.{LaneReport}
 use Rattle.sv_script.specs.declared.Outcome.TheVariants as outcome
-use Rattle.sv_script.specs.Answered.{answered, accepted, faults_told}
+use Rattle.sv_script.specs.Answered.{answered, accepted, dir_faults}
 use Rattle.sv_script.specs.OutcomeTexts.{outcome_text}
 use Rattle.sv_script.specs.ReplyLaw.{RepliesFit, GetsSeeAll}
 use Rattle.sv_script.specs.ReportTexts.{report_text}
 use Rattle.sv_script.specs.Script.{script_of}
 use Rattle.sv_plain.specs.Closed.{IsClosed}
-use Rattle.sv_plain.specs.Held.{Both, GoneAreAbsent, Holds, OthersStay}
+use Rattle.sv_model.specs.HeldFiles.{GoneAreAbsent, OthersStay}
+use Rattle.sv_plain.specs.Held.{Both, Holds}
 use Rattle.sv_run.specs.Handed.{Input, Directory, Output, KeepsFiles, IsUntouched}
 use Rattle.sv_run.specs.RunWords.{AreRun}
 use Rattle.sv_run.specs.Transfers.{IsLong, AppendsPart}
@@ -72,7 +73,7 @@ pub record LaneRan (d : Directory) (done : Done) (script : Script) (lane : LaneR
   pub closed : IsClosed done.books
   pub clean : (done.end ≡ end.Clean) ↔ (left_of done ≡ [])
   pub files : Both (LeavesFiles done.books) d.files d.later
-  pub faults : RoseBy (faults_told (answered script.lines lane.replies) + faults_at_close done.end (left_of done)) d.before d.now
+  pub faults : RoseBy (dir_faults (answered script.lines lane.replies) + faults_at_close done.end (left_of done)) d.before d.now
 
 -- the one lane of the script ran
 pub record HasRun (d : Directory) (script : Script) (done : Done) : Type 0 where

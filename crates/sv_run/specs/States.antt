@@ -2,7 +2,8 @@
 use Rattle.std.specs.Prelude.{◌≡◌, ℕ, Option, Some, All}
 use Rattle.sv_model.specs.Books.{Books}
 use Rattle.sv_model.specs.Files.{Files}
-use Rattle.sv_plain.specs.Held.{Both, Holds, OthersStay}
+use Rattle.sv_model.specs.HeldFiles.{OthersStay}
+use Rattle.sv_plain.specs.Held.{Both, Holds}
 use Rattle.sv_plain.specs.Store.{IsNumberedFrom, IsOpen}
 
 -- the books, the files of the directory, where it tells them, and its count of faults

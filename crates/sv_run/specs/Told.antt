@@ -6,7 +6,7 @@ use Rattle.sv_plain.specs.Follows.{Follows}
 use Rattle.sv_model.specs.Faults.{RoseBy}
 use Rattle.sv_script.specs.declared.Line.{Line}
 use Rattle.sv_script.specs.declared.Reply.{Reply}
-use Rattle.sv_script.specs.Answered.{Answered, answered, accepted, faults_told}
+use Rattle.sv_script.specs.Answered.{Answered, answered, accepted, dir_faults}
 use Rattle.sv_script.specs.ReplyLaw.{RepliesFit, GetsSeeAll}
 use Rattle.sv_plain.specs.Store.{IsNumberedFrom}
 use Rattle.sv_run.specs.States.{State, IsReady, LeavesOthers}
@@ -20,7 +20,7 @@ pub record Told (start now : State) (all : List Answered) : Type 0 where
   pub numbered : IsNumberedFrom start.books.files.next now.books
   pub others : LeavesOthers now.books start.files now.files
   pub later : start.faults ≤ now.faults
-  pub faults : RoseBy (faults_told all) start.faults now.faults
+  pub faults : RoseBy (dir_faults all) start.faults now.faults
   pub knows : Knows now.books all
   pub cuts : GetsSeeAll all
   pub fits : (later : Books) → Follows now.books later → RepliesFit (is_some start.files) later 0 all

@@ -4,7 +4,7 @@ ghost use Rattle.sv_model.specs.Refusals.{Refuses, RefusesExactly, first_due, ke
 ghost use Rattle.sv_model.specs.Files.{Files};
 ghost use Rattle.sv_script.specs.Answered.{handle_of};
 ghost use Rattle.sv_script.specs.Built.{IsBuilt};
-ghost use Rattle.sv_script.specs.ReplyLaw.{due, handle_fault};
+ghost use Rattle.sv_script.specs.ReplyLaw.{due, handle_refusal};
 ghost use Rattle.sv_plain.specs.Store.{IsOpen};
 ghost use Rattle.sv_run.specs.States.{state_of, IsReady};
 ghost use Rattle.sv_run.specs.Steps.{Steps, get_reply};
@@ -17,7 +17,7 @@ use sv_script::{Command, Reply};
 
 // Each lane has a handle of `default` from the start, and at this stage of no other family.
 fn find_family(family: &Name) -> Result<(), Refusal>
-    ensures { RefusesExactly (handle_fault (handle_of [] family.now)) result }
+    ensures { RefusesExactly (handle_refusal (handle_of [] family.now)) result }
 {
     if family.as_bytes() == b"default".as_slice() {
         Ok(())
@@ -28,7 +28,7 @@ fn find_family(family: &Name) -> Result<(), Refusal>
 
 // The key, where it is one and the lane has a handle of the family.
 fn key_in(alloc: Global, family: &Name, key: &[u8]) -> Result<Key, Refusal>
-    ensures refused { Refuses (first_due (key_fault (length key.now) ∷ handle_fault (handle_of [] family.now) ∷ [])) result }
+    ensures refused { Refuses (first_due (key_fault (length key.now) ∷ handle_refusal (handle_of [] family.now) ∷ [])) result }
     ensures key { IfOk result (λ made. made ≡ key.now) }
 {
     let key = Key::new(alloc, key)?;

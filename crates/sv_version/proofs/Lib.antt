@@ -1,3 +1,2 @@
-pub mod Endings
-pub mod Namings
-pub mod Numbers
+mod Released
+mod SoundFiles

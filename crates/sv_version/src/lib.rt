@@ -1,9 +1,7 @@
 //! Versions: how one follows from another, and which table files a Version lets go.
 #![tactic(auto)]
 
-mod appends;
-mod holds;
-mod kept;
+mod kept_version;
 mod versions;
 
-pub use versions::Versions;
+pub use versions::{MAX_VERSIONS, Versions};

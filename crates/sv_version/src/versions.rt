@@ -4,33 +4,32 @@ ghost use Rattle.sv_model.specs.declared.records.Version.{Version};
 ghost use Rattle.sv_model.specs.Named.{IsLiveVersion, HasFile};
 ghost use Rattle.sv_model.specs.Ranges.{FilesJoin};
 ghost use Rattle.sv_model.specs.Registers.{entry, Has};
-ghost use Rattle.sv_version.specs.Changes.{IsMade, IsReleased};
+ghost use Rattle.sv_version.specs.Changes.{IsMade, IsReleased, live_version};
+ghost use Rattle.sv_version.specs.KeptVersions.{IsSound};
 
-use crate::appends;
-use crate::kept::Kept;
+use crate::kept_version::KeptVersion;
 use std::alloc::Global;
 use std::marker::Model;
-use sv_model::{Counts, FileMeta, FileNumber, OutOfMemory, VersionId};
+use sv_model::{FileMeta, FileNumber, HolderRegister, OutOfMemory, VersionId};
+
+/// The greatest number of Versions ever made.
+pub const MAX_VERSIONS: usize = 4_294_967_295;
 
 /// The Versions ever made. Contracts see them in the order of their ids, from 1. A Version that was released
 /// is kept, since its id is never used again.
 #[derive(Drop)]
 pub struct Versions {
-    kept: Vec<Kept>,
-    counts: Counts,
+    versions: HolderRegister<KeptVersion>,
     alloc: Global,
 }
 
 impl Model for Versions {
     ghost use Rattle.std.specs.Prelude.{List};
     ghost use Rattle.sv_model.specs.declared.records.Version.{Version};
-    ghost use Rattle.sv_version.specs.Counted.{IsCounted, versions_of};
 
     ghost Value = { List Version };
 
-    ghost view = { λ s. versions_of s.kept.items };
-
-    ghost invariant = { λ s. IsCounted s.kept.items s.counts };
+    ghost view = { λ s. s.versions };
 }
 
 impl Versions {
@@ -39,20 +38,19 @@ impl Versions {
         ensures { result ≡ [] }
     {
         Versions {
-            kept: Vec::new(alloc),
-            counts: Counts::new(alloc),
+            versions: HolderRegister::new(alloc),
             alloc,
         }
     }
 
     /// A new Version without files.
     pub fn first(&mut self) -> Result<VersionId, OutOfMemory>
-        requires { length self.old < 4294967295 }
+        requires { length self.old < MAX_VERSIONS }
         ensures ok { IfOk result (IsMade self.old [] self.new) }
         ensures err { OnErr result (self.new ≡ self.old) }
     {
         let files = Vec::new(self.alloc);
-        appends::append(self.alloc, &mut self.kept, &mut self.counts, files)
+        self.append(files)
     }
 
     /// A new Version with the file last; the file begins where the others end. The Version that it follows
@@ -61,12 +59,13 @@ impl Versions {
         requires live { IsLiveVersion self.old version }
         requires joins { (v : Version) → entry self.old version ≡ Some v → FilesJoin 0 v.files file.from }
         requires unnamed { Has (HasFile file.number) self.old → ⊥ }
-        requires few { length self.old < 4294967295 }
+        requires few { length self.old < MAX_VERSIONS }
         ensures ok { IfOk result (λ id. (v : Version) → entry self.old version ≡ Some v → IsMade self.old (v.files ++ file ∷ []) self.new id) }
         ensures err { OnErr result (self.new ≡ self.old) }
     {
-        let files = appends::with_last(self.alloc, self.files(version), file)?;
-        appends::append(self.alloc, &mut self.kept, &mut self.counts, files)
+        let kept = self.versions.get(version.0);
+        let files = with_last(self.alloc, kept.files(), file)?;
+        self.append(files)
     }
 
     /// A new Version with that file alone, which covers what the files of the Version cover. The Version that
@@ -80,12 +79,12 @@ impl Versions {
         requires begins { file.from ≡ 0 }
         requires covers { (v : Version) → entry self.old version ≡ Some v → FilesJoin 0 v.files file.to }
         requires unnamed { Has (HasFile file.number) self.old → ⊥ }
-        requires few { length self.old < 4294967295 }
+        requires few { length self.old < MAX_VERSIONS }
         ensures ok { IfOk result (IsMade self.old (file ∷ []) self.new) }
         ensures err { OnErr result (self.new ≡ self.old) }
     {
-        let files = appends::with_last(self.alloc, &[], file)?;
-        appends::append(self.alloc, &mut self.kept, &mut self.counts, files)
+        let files = with_last(self.alloc, &[], file)?;
+        self.append(files)
     }
 
     /// Undoes the making of the last Version, which was not released. Takes no memory.
@@ -93,7 +92,7 @@ impl Versions {
         requires { IsLiveVersion self.old (length self.old) }
         ensures { (last : Version) × (self.old ≡ self.new ++ last ∷ []) }
     {
-        appends::undo(&mut self.kept, &mut self.counts);
+        self.versions.take_back();
     }
 
     /// The files of the Version, the oldest first. Takes no memory.
@@ -102,7 +101,7 @@ impl Versions {
         ensures value { (v : Version) → entry self.now version ≡ Some v → result.now ≡ v.files }
         ensures joins { (to : ℕ) × FilesJoin 0 result.now to }
     {
-        self.kept[version.0 as usize - 1].version.files.as_slice()
+        self.versions.get(version.0).files()
     }
 
     /// The Version is Gone. Gives the numbers of its files that no other Version names, the oldest first, each
@@ -111,6 +110,31 @@ impl Versions {
         requires { IsLiveVersion self.old version }
         ensures { IsReleased self.old version self.new result.items }
     {
-        appends::end(self.alloc, &mut self.kept, &mut self.counts, version)
+        self.versions.release(version.0)
     }
+
+    // A Version with these files.
+    fn append(&mut self, files: Vec<FileMeta>) -> Result<VersionId, OutOfMemory>
+        requires sound { IsSound (live_version files.items) }
+        requires few { length self.old < MAX_VERSIONS }
+        ensures ok { IfOk result (IsMade self.old files.items self.new) }
+        ensures err { OnErr result (self.new ≡ self.old) }
+    {
+        let version = KeptVersion::new(self.alloc, files)?;
+        Ok(VersionId(self.versions.add(version)?))
+    }
+}
+
+// The files and one more, in no more memory than they need.
+fn with_last(
+    alloc: Global,
+    files: &[FileMeta],
+    file: FileMeta,
+) -> Result<Vec<FileMeta>, OutOfMemory>
+    ensures { IfOk result (λ v. v.items ≡ files.now ++ file ∷ []) }
+{
+    let mut more = Vec::with_capacity(alloc, files.len().saturating_add(1))?;
+    more.extend_from_slice(files)?;
+    more.push(file)?;
+    Ok(more)
 }

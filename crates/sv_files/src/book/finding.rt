@@ -79,12 +79,7 @@ impl FileBook {
         requires { IsRegistered self.old.numbers number status.Grabbed }
         ensures { MarksOnly number status.Grabbed (ungrabbed gone) self.old self.new }
     {
-        let now = if gone {
-            FileStatus::Gone
-        } else {
-            FileStatus::Obsolete
-        };
-        let _ = self.numbers.mark(number.0, now);
+        let _ = self.numbers.mark(number.0, ungrabbed(gone));
     }
 
     /// Ends a job. Takes no memory.
@@ -116,5 +111,15 @@ impl FileBook {
             });
         }
         Ok(())
+    }
+}
+
+fn ungrabbed(gone: bool) -> FileStatus
+    ensures { result ≡ ungrabbed gone }
+{
+    if gone {
+        FileStatus::Gone
+    } else {
+        FileStatus::Obsolete
     }
 }

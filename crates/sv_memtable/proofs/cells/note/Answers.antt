@@ -1,12 +1,12 @@
 -- The key's numbers are written through, or the key comes into the map.
-use Rattle.std.proofs.Common.{◌≡◌, ◌++◌, ◌∷◌, [], List, ℕ, cond, Some, None, refl, sym, ap, subst, ◌∙◌, rules}
+use Rattle.std.proofs.Common.{◌≡◌, [], List, ℕ, cond, Some, refl, sym, ap, subst}
 use Rattle.std.specs.Prelude.{IsSome, unwrap_or}
 use Rattle.std.specs.Ordering.{nat_cmp}
 use Rattle.std.specs.Cmp.Lexicographic.{slice_cmp}
 use Rattle.std.specs.BTreeMap.{BTreeMap, get}
 use Rattle.std.proofs.lemmas.Result.{on_ok_weaker, on_err_weaker}
 use Rattle.sv_model.specs.Journal.{same_key}
-use Rattle.sv_memtable.specs.Index.{Notes, LeadsAsBefore, numbers_at}
+use Rattle.sv_memtable.specs.Index.{numbers_at}
 use Rattle.sv_memtable.proofs.Indexing.{notes_from, leads_as_before}
 use Rattle.sv_memtable.proofs.cells.note.Goals as goal
 
@@ -33,6 +33,6 @@ returns-in_ok-insert-in-None-clause-ok c =
     let at : numbers_at old key ≡ [] = ap (λ o. unwrap_or o []) (sym c.in-None.ensures.value) in
     let keyed : BTreeMap (List ℕ) (List ℕ) → List ℕ → Type 0 = λ m k. (q : List ℕ) → get (slice_cmp nat_cmp) c.insert.new.self q ≡ cond (same_key k q) (Some c.of.result) (get (slice_cmp nat_cmp) m q) in
     let writes : keyed old key =
-        subst (λ m. keyed m key) c.get_mut.follows.holds-at-none (subst (keyed c.get_mut.follows.lender-at-none) c.in_ok-clone-in-None.ensures.cases c.in_ok-insert-in-None.ensures.updates.0)
+    subst (λ m. keyed m key) c.get_mut.follows.holds-at-none (subst (keyed c.get_mut.follows.lender-at-none) c.in_ok-clone-in-None.ensures.cases c.in_ok-insert-in-None.ensures.updates.0)
     in
     notes_from old c.insert.new.self key [] c.of.result c.args.number at c.of.ensures writes

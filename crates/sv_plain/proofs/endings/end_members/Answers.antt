@@ -24,7 +24,7 @@ pub loop-mem-preserved : goal.loop-mem-preserved
 loop-mem-preserved c =
     let is = at c.args.given.now c.loop-mem.mem-index c.mem-item.result c.loop-mem-test.true c.mem-item.is in
     subst (λ ids. AreEnded c.args.memtables.now ids c.end.new.self) (one_more c.args.given.now c.loop-mem.mem-index c.mem-item.result c.loop-mem-test.true c.mem-item.is)
-    (ended-push _ _ _ _ _ c.end.ensures.0 c.loop-mem.invariant c.end.ensures.1 (fresh_in _ _ _ c.requires.once is))
+    (ended-push _ _ _ _ _ c.end.ensures.ended.0 c.loop-mem.invariant c.end.ensures.ended.1 (fresh_in _ _ _ c.requires.once is))
 
 pub returns : goal.returns
 returns c = subst (λ ids. AreEnded c.args.memtables.now ids c.loop-mem.memtables) (take_all c.loop-mem.mem-index c.args.given.now c.loop-mem-test.false) c.loop-mem.invariant

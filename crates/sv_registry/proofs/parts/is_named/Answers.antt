@@ -1,27 +1,17 @@
-use Rattle.std.proofs.Common.{refl, ◌∙◌, sym, subst, below_more, get_or}
+use Rattle.std.proofs.Common.{◌∙◌, sym, ap, arith, below_more}
+use Rattle.std.specs.Option.{option_copied}
 use Rattle.std.proofs.lemmas.Bool.{false≢true}
-use Rattle.sv_registry.specs.Parts.{Names}
-use Rattle.sv_registry.proofs.PartLemmas.{names_part, index_within, read_place, none_named, none_free, none_here}
+use Rattle.sv_registry.proofs.PartLemmas.{none_named, none_free, none_here}
 use Rattle.sv_registry.proofs.parts.is_named.Goals as goal
-use Rattle.sv_registry.proofs.parts.is_named.Goals.{else-serial-ne0-via-then-serial-ne0+else-names, else-serial-ne0-via-else-serial-ne0}
+use Rattle.sv_registry.proofs.parts.is_named.Goals.{in-Some+else-names, in_default}
 
-pub bounds-records-serial : goal.bounds-records-serial
-bounds-records-serial c = index_within c.args.records.now c.args.places.now c.loop-serial.serial-index c.requires c.loop-serial-test.true c.if-serial-ne0.true
-
-pub returns-then-names : goal.returns-then-names
-returns-then-names c =
-    let r = read_place c.args.records.now c.args.places.now c.loop-serial.serial-index c.index-records-serial.result c.requires c.loop-serial-test.true c.if-serial-ne0.true c.index-records-serial.is in
-    let named = c.names.ensures.0 c.if-names.true in
-    (λ t. (get_or c.args.places.now c.loop-serial.serial-index 0, c.index-records-serial.result, r.0, names_part c.args.part.now c.index-records-serial.result r.1 (subst (λ z. Names c.args.part.now z.descriptor) (sym c.index-records-serial.is) named)), λ h. refl)
-
-pub loop-serial-preserved : goal.loop-serial-preserved
-loop-serial-preserved c = below_more _ _ c.loop-serial.invariant (elim c.else-serial-ne0.branch [
-  | else-serial-ne0-via-then-serial-ne0+else-names w ↦
-      let r = read_place c.args.records.now c.args.places.now c.loop-serial.serial-index w.index-records-serial.result c.requires c.loop-serial-test.true w.if-serial-ne0.true w.index-records-serial.is in
-      none_here c.args.part.now c.args.records.now c.args.places.now c.loop-serial.serial-index w.index-records-serial.result c.loop-serial-test.true r.0
-      (λ named. false≢true (sym w.if-names.false ∙ w.names.ensures.1 (subst (λ z. Names c.args.part.now z.descriptor) w.index-records-serial.is named)))
-  | else-serial-ne0-via-else-serial-ne0 w ↦ none_free c.args.part.now c.args.records.now c.args.places.now c.loop-serial.serial-index c.loop-serial-test.true w.if-serial-ne0.false
+pub loop-place-preserved : goal.loop-place-preserved
+loop-place-preserved c = below_more _ _ c.loop-place.invariant (elim c.match-at.branch [
+  | in-Some+else-names w ↦
+      none_here c.args.part.now c.args.supers.now _ c.loop-place.place (option_copied c.at.result) w.in-Some.record.now c.places-place-end.ensures.placed (ap option_copied w.in-Some.is) c.at.ensures
+      (λ named. false≢true (sym w.if-names.false ∙ w.names.ensures.1 named))
+  | in_default w ↦ none_free c.args.part.now c.args.supers.now c.loop-place.place (option_copied c.at.result) (ap option_copied w.in_default.is) c.at.ensures
 ])
 
 pub returns : goal.returns
-returns c = (λ t. absurd (false≢true t), λ h. absurd (none_named c.args.part.now c.args.records.now c.args.places.now c.loop-serial.serial-index c.requires c.loop-serial-test.false c.loop-serial.invariant h))
+returns c = (λ t. absurd (false≢true t), λ h. absurd (none_named c.args.part.now c.args.supers.now _ c.loop-place.place c.places-place-end.ensures.placed (omega (arith, c.places-place-end.ensures.count)) c.loop-place.invariant h))

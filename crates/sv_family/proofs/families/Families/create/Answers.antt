@@ -12,3 +12,6 @@ invariant_of-self-2 c =
     let pushed : c.push.new.self.items ≡ c.self.inside.families.items ++ c.in_ok-family.family ∷ [] = where_ok (is_ok c.push.result) _ _ _ c.push.ensures.items ok in
     subst AreFamilies (sym pushed)
     (lawful_create c.self.inside.families.items c.args.self.now c.args.lane c.args.name.now c.in_ok-family.family c.self.view_is c.self.invariant (sym c.create_refusal.ensures ∙ c.in_default.is) c.in_ok-family.ensures)
+
+pub returns-clause-lawful : goal.returns-clause-lawful
+returns-clause-lawful c = invariant_of-self-2 c

@@ -1,11 +1,14 @@
-use Rattle.std.proofs.Common.{ap, sym, ◌∙◌, Some}
-use Rattle.sv_family.proofs.Seeking.{change_due, change_not_due}
+use Rattle.std.proofs.Common.{ap, ◌∙◌, Some}
+use Rattle.sv_family.proofs.Seeking.{dropped_due_next, dropped_not_due_next}
 use Rattle.sv_family.proofs.families.Families.find_undropped.Goals as goal
 
 pub returns-then-is_dropped-clause-refused : goal.returns-then-is_dropped-clause-refused
 returns-then-is_dropped-clause-refused c =
-    change_due c.args.self.now c.args.lane c.args.name.now c.in_ok-id.id c.in_ok-id.ensures.found c.in_ok-id.ensures.refused (c.is_dropped.ensures ∙ ap Some c.if-is_dropped.true)
+    dropped_due_next c.args.self.now c.args.lane c.args.name.now c.in_ok-id.id c.in_ok-id.ensures.found _
+    c.in_ok-id.ensures.refused (c.is_dropped.ensures ∙ ap Some c.if-is_dropped.true)
 
 pub returns-clause-refused : goal.returns-clause-refused
 returns-clause-refused c =
-    change_not_due c.args.self.now c.args.lane c.args.name.now c.in_ok-id.id c.in_ok-id.ensures.found c.in_ok-id.ensures.refused (c.in_ok-id.ensures.lawful.meant c.args.lane c.args.name.now) (c.is_dropped.ensures ∙ ap Some c.if-is_dropped.false)
+    dropped_not_due_next c.args.self.now c.args.lane c.args.name.now c.in_ok-id.id c.in_ok-id.ensures.found _
+    c.in_ok-id.ensures.refused (c.in_ok-id.ensures.lawful.meant c.args.lane c.args.name.now)
+    (c.is_dropped.ensures ∙ ap Some c.if-is_dropped.false)

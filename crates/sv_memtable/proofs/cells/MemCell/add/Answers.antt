@@ -1,5 +1,5 @@
 -- A row is added, and its number noted.
-use Rattle.std.proofs.Common.{◌≡◌, ◌<◌, ◌+◌, ◌++◌, ◌∷◌, [], List, ℕ, length, sym, ap, subst, ◌∙◌, rules, arith}
+use Rattle.std.proofs.Common.{◌≡◌, ◌<◌, ◌++◌, ◌∷◌, [], List, length, sym, ap, subst, arith}
 use Rattle.sv_model.specs.declared.writes.Row.{Row}
 use Rattle.sv_memtable.specs.declared.cells.TheConstants.{MAX_ROWS}
 use Rattle.sv_memtable.specs.Index.{IsIndexed}

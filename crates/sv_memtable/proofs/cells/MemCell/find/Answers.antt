@@ -1,5 +1,5 @@
 -- The last number of the key is that of its newest row.
-use Rattle.std.proofs.Common.{◌≡◌, ◌++◌, ◌∷◌, [], List, ℕ, length, Some, None, refl, sym, ap, subst, ◌∙◌, rules, arith}
+use Rattle.std.proofs.Common.{◌≡◌, ◌++◌, ◌∷◌, [], List, length, Some, None, sym, ap, subst, ◌∙◌, arith}
 use Rattle.std.specs.Prelude.{option_map}
 use Rattle.sv_model.specs.declared.writes.Row.{Row}
 use Rattle.sv_model.specs.Journal.{newest_op, newest_row}
@@ -32,8 +32,8 @@ pub returns-in-Some : goal.returns-in-Some
 returns-in-Some c =
     let rows = c.self.inside.rows.items in
     let numbers : numbers_of_key c.args.key.now rows ≡ c.newest.ensures.0 ++ c.newest.result ∷ [] =
-        led rows c.self.inside.index c.args.key.now c.in-Some.numbers.now c.self.invariant (sym c.in-Some.ensures.value) ∙ c.newest.ensures.1 in
+    led rows c.self.inside.index c.args.key.now c.in-Some.numbers.now c.self.invariant (sym c.in-Some.ensures.value) ∙ c.newest.ensures.1 in
     let row : entry c.as_slice.result.now c.newest.result ≡ newest_row c.args.key.now rows =
-        ap (λ l. entry l c.newest.result) c.as_slice.ensures.value ∙ found_last rows c.args.key.now c.newest.ensures.0 c.newest.result numbers in
+    ap (λ l. entry l c.newest.result) c.as_slice.ensures.value ∙ found_last rows c.args.key.now c.newest.ensures.0 c.newest.result numbers in
     let found : Some c.op_of.result.now ≡ newest_op c.args.key.now rows = sym c.op_of.ensures ∙ ap (option_map (λ (r : Row). r.op)) row in
     subst (λ (l : List Row). Some c.op_of.result.now ≡ newest_op c.args.key.now l) (ap (λ v. v.rows) c.self.view_is) found

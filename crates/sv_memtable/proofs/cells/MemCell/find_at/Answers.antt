@@ -1,5 +1,5 @@
 -- The last number of the key that is at most the cut is that of its newest row among so many.
-use Rattle.std.proofs.Common.{◌≡◌, ◌++◌, ◌∷◌, [], List, ℕ, length, take, nat_le, Some, None, refl, sym, ap, subst, ◌∙◌, rules, arith}
+use Rattle.std.proofs.Common.{◌≡◌, List, ℕ, length, take, nat_le, Some, None, sym, ap, subst, ◌∙◌, arith}
 use Rattle.std.specs.Prelude.{find, reverse, option_map, option_and_then, IfSome}
 use Rattle.std.specs.List.Sorted.{IsNonDecreasing}
 use Rattle.sv_model.specs.declared.writes.Row.{Row}
@@ -56,6 +56,6 @@ returns-in-Some-newest_upto c =
     let at : find (λ n. nat_le n c.args.upto) (reverse (numbers_of_key key rows)) ≡ Some number = ap (λ l. find (λ n. nat_le n c.args.upto) (reverse l)) numbers ∙ sym c.in-Some-newest_upto.ensures in
     let row : entry rows number ≡ newest_row key (take c.args.upto rows) = sym (ap (option_and_then (entry rows)) at) ∙ found_upto rows key c.args.upto in
     let found : Some c.op_of.result.now ≡ newest_op key (take c.args.upto rows) =
-        sym c.op_of.ensures ∙ ap (λ l. option_map (λ (r : Row). r.op) (entry l number)) c.as_slice.ensures.value ∙ ap (option_map (λ (r : Row). r.op)) row
+    sym c.op_of.ensures ∙ ap (λ l. option_map (λ (r : Row). r.op) (entry l number)) c.as_slice.ensures.value ∙ ap (option_map (λ (r : Row). r.op)) row
     in
     subst (λ (l : List Row). Some c.op_of.result.now ≡ newest_op key (take c.args.upto l)) (ap (λ v. v.rows) c.self.view_is) found

@@ -1,8 +1,7 @@
 -- A close: nothing is open, and each Obsolete file was tried.
-use Rattle.std.proofs.Common.{◌<◌, subst}
-use Rattle.std.specs.Prelude.{◌^◌}
+use Rattle.std.proofs.Common.{◌≤◌, arith, subst}
 use Rattle.sv_model.specs.Books.{FileRegister}
-use Rattle.sv_files.specs.Laws.{FileLaws}
+use Rattle.sv_model.specs.Numbers.{NumbersStand}
 use Rattle.sv_plain.specs.Held.{Both}
 use Rattle.sv_plain.specs.Removed.{IsRemoval, Removes}
 use Rattle.sv_plain.specs.Views.{books_of}
@@ -18,8 +17,8 @@ closing g c =
       stands = c.requires.stands;
       emptied = c.end_current.ensures.emptied;
       store = c.end_current.ensures.rests.store;
-      laws = subst (λ (r : FileRegister). FileLaws r.numbers r.captured r.next) same c.remove_obsolete.ensures.laws;
-      fits = subst (λ (r : FileRegister). r.next < 2 ^ 64) same c.remove_obsolete.ensures.fits;
+      laws = subst (λ (r : FileRegister). NumbersStand r.numbers r.captured r.next) same c.remove_obsolete.ensures.laws.numbers;
+      fits = (let most = subst (λ (r : FileRegister). r.next ≤ 18446744073709551615) same c.remove_obsolete.ensures.laws.numbers.most in omega (arith, most));
       removal = subst (λ (r : FileRegister). IsRemoval r c.remove_obsolete.new.files) same c.remove_obsolete.ensures.numbers;
     }
 

@@ -46,13 +46,13 @@ end-requires c =
     (active_lives (books_of c.args.self.now) _ _ _ _ _ _ _ _ _ _ _ c.requires.stands c.release-given.ensures (members c))
 
 -- what the calls gave
-emptying : (c : goal.After-self-1) → Emptying (books_of c.args.self.now) c.args.self.now.reach c.args.self.now.base c.requires.serial c.requires.place c.args.self.now.list c.args.self.now.last c.args.self.now.pack c.args.self.now.active c.args.self.now.immutables.items c.reclaim.new.self c.release-given.new.self c.end_members.new.memtables c.end.new.self c.reclaim.result c.release-given.result.items c.end.ensures.0
+emptying : (c : goal.After-self-1) → Emptying (books_of c.args.self.now) c.args.self.now.reach c.args.self.now.base c.requires.serial c.requires.place c.args.self.now.list c.args.self.now.last c.args.self.now.pack c.args.self.now.active c.args.self.now.immutables.items c.reclaim.new.self c.release-given.new.self c.end_members.new.memtables c.end.new.self c.reclaim.result c.release-given.result.items c.end.ensures.ended.0
 emptying c = record {
   stands = c.requires.stands;
-  reclaimed = c.reclaim.ensures;
+  reclaimed = c.reclaim.ensures.reclaimed;
   released = c.release-given.ensures;
   members = subst (λ l. AreEnded c.args.self.now.memtables l c.end_members.new.memtables) c.as_slice.ensures.value c.end_members.ensures;
-  last = subst (λ n. IsEnded c.end_members.new.memtables n c.end.ensures.0 c.end.new.self) c.id.ensures c.end.ensures.1;
+  last = subst (λ n. IsEnded c.end_members.new.memtables n c.end.ensures.ended.0 c.end.new.self) c.id.ensures c.end.ensures.ended.1;
 }
 
 pub returns-clause-emptied : goal.returns-clause-emptied

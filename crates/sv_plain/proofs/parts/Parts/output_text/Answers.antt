@@ -1,8 +1,8 @@
 -- The tables of the memtables join to the file's range, and what they merge into has its text.
 use Rattle.std.proofs.Common.{◌≡◌, ◌<◌, ◌-◌, ◌^◌, false, sym, ◌∙◌, subst, arith}
-use Rattle.sv_model.specs.Flat.{IsFlat}
+use Rattle.sv_model.specs.Flat.{IsFlat, plain}
 use Rattle.sv_model.specs.TableText.{HasText, table_text}
-use Rattle.sv_plain.specs.Held.{IsFileText}
+use Rattle.sv_model.specs.HeldFiles.{IsFileText}
 use Rattle.sv_plain.proofs.OutputTables.{ready_as, ends_same, text_of, both_ok}
 use Rattle.sv_plain.proofs.parts.Parts.output_text.Goals as goal
 
@@ -36,7 +36,7 @@ returns c =
     let t = c.in_ok-table.table in
     let are = ready_as c.args.self.now file _ _ _ c.requires c.as_slice.ensures.value c.in_ok-tables.ensures c.as_slice-2.ensures.value in
     let ends = ends_same file.from t.from c.as_slice-2.result.now file.to t.to are.some are.joined c.in_ok-table.ensures.range in
-    let bottom : t.bottom ≡ false = c.in_ok-table.ensures.bottom in
+    let bottom : t.bottom ≡ plain = c.in_ok-table.ensures.bottom in
     let flat = subst (λ b. IsFlat journal 0 t.from t.to b t.rows) (sym bottom) (c.in_ok-table.ensures.flat journal 0 are.flats (λ _. are.plain)) in
     both_ok (λ text. text.items ≡ table_text t.from t.to t.bottom t.rows) (λ text. HasText t.from t.to t.bottom t.rows) (λ text. IsFileText journal 0 file text.items) c.encode.result c.encode.ensures.text c.encode.ensures.has_text
     (λ text is table. text_of journal file t text.items ends.0 ends.1 (bottom ∙ sym c.requires.above) flat table is)

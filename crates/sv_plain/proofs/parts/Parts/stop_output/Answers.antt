@@ -3,7 +3,7 @@ use Rattle.std.proofs.Common.{◌∷◌, [], List, false, sym, subst}
 use Rattle.sv_model.specs.declared.FileMeta.{FileMeta}
 use Rattle.sv_plain.specs.Stands.{Stands}
 use Rattle.sv_plain.specs.Views.{books_of}
-use Rattle.sv_plain.proofs.Settling.{after_settled, pends_output, settles_output, stopped}
+use Rattle.sv_plain.proofs.Settling.{after_settled, pends_output, settled_as, settles_output, stopped}
 use Rattle.sv_plain.proofs.parts.Parts.stop_output.Goals as goal
 
 pub settle-requires : goal.settle-requires
@@ -13,7 +13,7 @@ pub returns-clause-runs : goal.returns-clause-runs
 returns-clause-runs c =
     let p = c.args.self.now in
     let o = c.requires.outputs in
-    let settled = settles_output p c.args.file.now c.settle.new.self false o c.settle.ensures in
+    let settled = settles_output p c.args.file.now c.settle.new.self false o (settled_as _ false _ _ c.settle.ensures) in
     record {
       is = o.is;
       serial = o.serial;
@@ -26,8 +26,8 @@ returns-clause-runs c =
 
 pub returns-clause-settled : goal.returns-clause-settled
 returns-clause-settled c = λ outputs.
-    let settled = settles_output c.args.self.now c.args.file.now c.settle.new.self false outputs c.settle.ensures in
+    let settled = settles_output c.args.self.now c.args.file.now c.settle.new.self false outputs (settled_as _ false _ _ c.settle.ensures) in
     record { numbers = settled.0; next = settled.2 }
 
 pub returns-clause-after : goal.returns-clause-after
-returns-clause-after c = after_settled (books_of c.args.self.now) c.settle.new.self c.args.file.now.number false c.requires.outputs.stands.tops c.settle.ensures
+returns-clause-after c = after_settled (books_of c.args.self.now) c.settle.new.self c.args.file.now.number false c.requires.outputs.stands.tops (settled_as _ false _ _ c.settle.ensures)

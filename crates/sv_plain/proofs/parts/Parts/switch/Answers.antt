@@ -7,8 +7,8 @@ use Rattle.sv_model.specs.Registers.{entry}
 use Rattle.sv_model.proofs.Refusing.{none_due}
 use Rattle.sv_model.proofs.Registers.{entry-old}
 use Rattle.sv_plain.specs.declared.immutables.Immutable.{Immutable}
-use Rattle.sv_cells.specs.Calls.{memtables_fault}
-use Rattle.sv_registry.specs.Calls.{make_fault}
+use Rattle.sv_cells.specs.Calls.{memtables_refusal}
+use Rattle.sv_registry.specs.Calls.{make_refusal}
 use Rattle.sv_plain.specs.Installs.{SwitchMade}
 use Rattle.sv_plain.specs.Stands.{Stands}
 use Rattle.sv_plain.specs.Store.{top_from}
@@ -60,10 +60,10 @@ made c = record {
   stands = c.requires.runs.stands;
   rows = c.requires.rows;
   pack_is = c.requires.runs.pack_is;
-  room = (none_due (memtables_fault c.args.self.now.memtables) (make_fault c.args.self.now.registry ∷ []) c.in_ok-made.ensures.refused).0;
-  may = (none_due (make_fault c.args.self.now.registry) [] (none_due (memtables_fault c.args.self.now.memtables) (make_fault c.args.self.now.registry ∷ []) c.in_ok-made.ensures.refused).1).0;
+  room = (none_due (memtables_refusal c.args.self.now.memtables) (make_refusal c.args.self.now.registry ∷ []) c.in_ok-made.ensures.refused).0;
+  may = (none_due (make_refusal c.args.self.now.registry) [] (none_due (memtables_refusal c.args.self.now.memtables) (make_refusal c.args.self.now.registry ∷ []) c.in_ok-made.ensures.refused).1).0;
   made_is = made_by c;
-  reclaimed = c.reclaim.ensures;
+  reclaimed = c.reclaim.ensures.reclaimed;
   released = c.release.ensures;
   it_from = c.in_ok-it.ensures.from;
   it_to = c.in_ok-it.ensures.to;

@@ -3,12 +3,13 @@ use Rattle.std.proofs.Common.{◌+◌, ℕ, List, length, refl, sym, subst}
 use Rattle.sv_model.specs.declared.FileStatus.TheVariants.{Pending}
 use Rattle.sv_model.specs.Books.{FileRegister}
 use Rattle.sv_model.specs.Lists.{In, Distinct}
-use Rattle.sv_files.specs.Calls.{IsRegistered}
+use Rattle.sv_model.specs.Numbers.{IsRegistered}
 use Rattle.sv_plain.specs.declared.immutables.Immutable.{Immutable}
 use Rattle.sv_plain.specs.Ended.{AreEnded}
 use Rattle.sv_plain.specs.Stands.{Stands}
 use Rattle.sv_plain.specs.Taken.{IsTaking}
 use Rattle.sv_plain.proofs.LiveNumbers.{pends}
+use Rattle.sv_plain.proofs.Settling.{settled_as}
 use Rattle.sv_plain.proofs.Taking.{Steps, books_after, given_live, list_lives, list_still, pack_lives, version_lives}
 use Rattle.sv_plain.proofs.TakenOver.{stands_after}
 use Rattle.sv_plain.proofs.TakenGoes.{files_more, goes, none_wait, rows_same, settles_as}
@@ -43,11 +44,11 @@ steps c t = record {
   freed = c.reclaim.result;
   given = c.release-flushed.result.items;
   gone = c.release.result.items;
-  reclaimed = c.reclaim.ensures;
+  reclaimed = c.reclaim.ensures.reclaimed;
   released = c.release-flushed.ensures;
   ended = subst (λ (l : List ℕ). AreEnded c.args.self.now.memtables l c.end_members.new.memtables) c.as_slice.ensures.value c.end_members.ensures;
   dropped = c.release.ensures;
-  settled = c.settle.ensures;
+  settled = settled_as _ true _ _ c.settle.ensures;
 }
 
 pub returns : goal.returns

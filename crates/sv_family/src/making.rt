@@ -1,0 +1,42 @@
+// The families that are made.
+ghost use Rattle.std.specs.Prelude.{◌≡◌, ◌<◌, IfOk};
+ghost use Rattle.sv_model.specs.Families.{default_family};
+ghost use Rattle.sv_family.specs.Calls.{new_family};
+
+use crate::sought::MAX_LANES;
+use std::alloc::Global;
+use sv_model::{Family, Name, Options, OutOfMemory};
+
+/// How many families are made at most, dropped ones included.
+pub const MAX_FAMILIES: usize = 16;
+
+// The family of which each lane has a handle.
+pub(crate) fn default_family(alloc: Global) -> Result<Family, OutOfMemory>
+    ensures { IfOk result (λ family. family ≡ default_family) }
+{
+    let Some(name) = Name::new(alloc, b"default")? else {
+        unreachable!();
+    };
+    Ok(Family {
+        name,
+        options: Options::FIRST,
+        dropped: false,
+        handles: [true; 32],
+    })
+}
+
+// The family that a lane makes, which alone has a handle.
+pub(crate) fn new_family(lane: u8, name: &Name) -> Result<Family, OutOfMemory>
+    requires { lane < MAX_LANES }
+    ensures { IfOk result (λ family. family ≡ new_family lane name.now) }
+{
+    let name = name.clone()?;
+    let mut handles = [false; 32];
+    handles[lane as usize] = true;
+    Ok(Family {
+        name,
+        options: Options::FIRST,
+        dropped: false,
+        handles,
+    })
+}
