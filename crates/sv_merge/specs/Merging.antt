@@ -1,5 +1,5 @@
 -- What tables are merged, and what comes of it.
-use Rattle.std.specs.Prelude.{◌≡◌, ◌≤◌, ℕ, Bool, false, ◌==◌, List, [], ◌∷◌, map, reverse}
+use Rattle.std.specs.Prelude.{◌≡◌, ◌≤◌, ℕ, false, ◌==◌, List, [], ◌∷◌, map, reverse}
 use Rattle.std.specs.List.{flat_map, dedup, AllByRecursion}
 use Rattle.sv_model.specs.declared.writes.Write.{Write}
 use Rattle.sv_model.specs.declared.writes.Kept.{Kept}

@@ -11,10 +11,7 @@ use std::alloc::Global;
 use sv_model::{Bottom, Items, Numbered, OutOfMemory, Table};
 
 /// The rows by key, and in one key the newest first.
-fn newest_first<'a>(
-    alloc: Global,
-    rows: &'a [Numbered],
-) -> Result<Vec<&'a Numbered>, OutOfMemory>
+fn newest_first<'a>(alloc: Global, rows: &'a [Numbered]) -> Result<Vec<&'a Numbered>, OutOfMemory>
     ensures { IfOk result (λ v. IsNewestFirst rows.now (map (λ n. n.now) v.items)) }
 {
     let mut sorted = Vec::new(alloc);

@@ -39,7 +39,7 @@ pub among_right : (e : ℕ) (xs ys : List ℕ) → Among e ys → Among e (xs ++
 among_right e [] ys there = there
 among_right e (x ∷ xs) ys there = inr (among_right e xs ys there)
 
-among_parts : (e : ℕ) (xs ys : List ℕ) → Among e (xs ++ ys) → Among e xs ⊎ Among e ys
+pub among_parts : (e : ℕ) (xs ys : List ℕ) → Among e (xs ++ ys) → Among e xs ⊎ Among e ys
 among_parts e [] ys there = inr there
 among_parts e (x ∷ xs) ys there = elim there [
   | inl here ↦ inl (inl here)
