@@ -1,8 +1,8 @@
 // The book of file numbers.
-ghost use Rattle.std.specs.Prelude.{◌≡◌, ◌≤◌, ◌<◌, [], ◌∷◌, ◌++◌, ℕ, Some, None, IfOk, OnErr, slice_get, map, if◌then◌else◌};
+ghost use Rattle.std.specs.Prelude.{◌≡◌, ◌≤◌, ◌<◌, [], ◌∷◌, ◌++◌, ℕ, Some, None, IfOk, OnErr, MatchOption, slice_get, map, if◌then◌else◌};
 ghost use Rattle.sv_model.specs.declared.records.FileStatus.TheVariants as status;
 ghost use Rattle.sv_model.specs.declared.refusals.Refusal.TheVariants.{RegisterFull};
-ghost use Rattle.sv_model.specs.Numbers.{FilesStand, IsRegistered, MarksOnly, captures, least_captured};
+ghost use Rattle.sv_model.specs.Numbers.{FilesStand, IsRegistered, MarksOnly, captures, least_captured, registered};
 ghost use Rattle.sv_model.specs.Refusals.{Refuses};
 ghost use Rattle.sv_files.specs.Calls.{AreNamed, Settles, capture_fault, captured_for, live_file, opened, settled_status};
 
@@ -148,6 +148,13 @@ impl FileBook {
         ensures { slice_get self.now.captured family ≡ Some result }
     {
         self.captured[family.0 as usize]
+    }
+
+    /// What may be done with a number; none exactly where it is not registered. Takes no memory.
+    pub fn status(&self, number: FileNumber) -> Option<FileStatus>
+        ensures { MatchOption result (registered number self.now.numbers ≡ 0) (λ status. IsRegistered self.now.numbers number status) }
+    {
+        self.numbers.status(number.0)
     }
 
     /// The next number. Takes no memory.

@@ -1,5 +1,5 @@
 // Every file number ever registered, with its status.
-ghost use Rattle.std.specs.Prelude.{◌≡◌, ◌≢◌, ◌+◌, ◌<◌, ◌≤◌, ◌↔◌, ◌++◌, ◌∷◌, [], ℕ, Some, IsTrue, IsSome, IfOk, OnOk, OnErr, length, take};
+ghost use Rattle.std.specs.Prelude.{◌≡◌, ◌≢◌, ◌+◌, ◌<◌, ◌≤◌, ◌↔◌, ◌++◌, ◌∷◌, [], ℕ, Some, IsTrue, IsSome, IfOk, OnOk, OnErr, MatchOption, length, take};
 ghost use Rattle.std.specs.Ordering.{nat_cmp};
 ghost use Rattle.std.specs.BTreeMap.{get};
 ghost use Rattle.std.specs.VecDeque.{deque_len, deque_capacity};
@@ -64,6 +64,15 @@ impl Numbers {
         ensures { IsTrue result ↔ (0 < registered number self.now) }
     {
         self.places.contains_key(&number)
+    }
+
+    pub(crate) fn status(&self, number: u64) -> Option<FileStatus>
+        ensures { MatchOption result (registered number self.now ≡ 0) (λ status. IsRegistered self.now number status) }
+    {
+        match self.places.get(&number) {
+            Some(at) => Some(self.files[*at].status),
+            None => None,
+        }
     }
 
     pub(crate) fn is_obsolete(&self, number: u64) -> bool
