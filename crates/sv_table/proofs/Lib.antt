@@ -1,0 +1,7 @@
+pub mod Examples
+pub mod HeaderText
+pub mod Leaves
+pub mod OneField
+pub mod RowText
+pub mod Runs
+pub mod Spelling
