@@ -5,3 +5,4 @@ pub mod OneField
 pub mod RowText
 pub mod Runs
 pub mod Spelling
+pub mod Stops

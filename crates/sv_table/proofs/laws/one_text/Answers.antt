@@ -1,4 +1,4 @@
-use Rattle.sv_table.proofs.RowText as m_RowText
+use Rattle.sv_table.proofs.Stops as m_Stops
 use Rattle.sv_table.proofs.laws.one_text.Goals as goal
 
 pub returns : goal.returns
