@@ -1,5 +1,8 @@
+pub mod EndNumbers
 pub mod Examples
+pub mod FileText
 pub mod HeaderText
+pub mod KeptRows
 pub mod Leaves
 pub mod OneField
 pub mod RowText
