@@ -165,7 +165,7 @@ allows : (l b : Bool) → (l ≡ true → b ≡ false) → not (l && b) ≡ true
 allows true b h = ap not (h refl)
 allows false b h = refl
 
-not_below_same : (a b : List ℕ) → same_key a b ≡ true → is_below b a ≡ false
+pub not_below_same : (a b : List ℕ) → same_key a b ≡ true → is_below b a ≡ false
 not_below_same a b e = not_true (is_below b a) (λ low. below_other b a low (sym (same_eq a b e)))
 
 not_same_below : (a b : List ℕ) → is_below a b ≡ true → same_key a b ≡ true → ⊥

@@ -3,7 +3,9 @@ pub mod Examples
 pub mod FileText
 pub mod HeaderText
 pub mod KeptRows
+pub mod KeyTests
 pub mod Leaves
+pub mod Loops
 pub mod OneField
 pub mod RowText
 pub mod Runs
