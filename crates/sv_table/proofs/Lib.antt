@@ -11,3 +11,4 @@ pub mod RowText
 pub mod Runs
 pub mod Spelling
 pub mod Stops
+pub mod Whole
