@@ -12,3 +12,4 @@ pub mod Runs
 pub mod Spelling
 pub mod Stops
 pub mod Whole
+pub mod WrittenText
