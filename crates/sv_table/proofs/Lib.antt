@@ -7,6 +7,7 @@ pub mod KeyTests
 pub mod Leaves
 pub mod Loops
 pub mod OneField
+pub mod PlaceText
 pub mod RowText
 pub mod Runs
 pub mod Spelling
