@@ -78,18 +78,18 @@ range_spells =
     })
     (spells_any_u64 (From One) refl (λ t. refl))
     (λ from h.
-        spells_bind (λ (r : ℕ × ℕ). r.1) le64 (λ n. (n < 2 ^ 64) × (nat_lt from n ≡ true)) (λ bytes. checked (λ n. nat_lt from n) bytes (number_at w64 bytes))
-        (λ to r. []) (λ to r. r ≡ (from, to)) (λ to bytes. Ok ((from, to), bytes))
-        (λ r. le64 r.1) (λ r. (r.0 ≡ from) × (nat_lt from r.1 ≡ true) × (r.1 < 2 ^ 64))
-        (record {
-          texts = λ r _. sym (append-nil (le64 r.1));
-          whole = λ to r h e.
-              let second : r.1 ≡ to = ap (λ (z : ℕ × ℕ). z.1) e in
-              (second, (ap (λ (z : ℕ × ℕ). z.0) e, subst (λ (n : ℕ). nat_lt from n ≡ true) (sym second) h.1, subst (λ (n : ℕ). n < 2 ^ 64) (sym second) h.0));
-          parts = λ r f. ((f.2, f.1), λ i. (f.0 i, r.1));
-        })
-        (spells_u64 (To One from) (λ n. nat_lt from n) refl (λ t. refl))
-        (λ to h. spells_done (from, to)))
+    spells_bind (λ (r : ℕ × ℕ). r.1) le64 (λ n. (n < 2 ^ 64) × (nat_lt from n ≡ true)) (λ bytes. checked (λ n. nat_lt from n) bytes (number_at w64 bytes))
+    (λ to r. []) (λ to r. r ≡ (from, to)) (λ to bytes. Ok ((from, to), bytes))
+    (λ r. le64 r.1) (λ r. (r.0 ≡ from) × (nat_lt from r.1 ≡ true) × (r.1 < 2 ^ 64))
+    (record {
+      texts = λ r _. sym (append-nil (le64 r.1));
+      whole = λ to r h e.
+          let second : r.1 ≡ to = ap (λ (z : ℕ × ℕ). z.1) e in
+          (second, (ap (λ (z : ℕ × ℕ). z.0) e, subst (λ (n : ℕ). nat_lt from n ≡ true) (sym second) h.1, subst (λ (n : ℕ). n < 2 ^ 64) (sym second) h.0));
+      parts = λ r f. ((f.2, f.1), λ i. (f.0 i, r.1));
+    })
+    (spells_u64 (To One from) (λ n. nat_lt from n) refl (λ t. refl))
+    (λ to h. spells_done (from, to)))
 
 -- ---- the cuts
 
@@ -118,7 +118,6 @@ cut_from_is low to cut e =
     (omega arith, omega arith)
 
 module _ (to : ℕ) (in_range : to < 2 ^ 64) where
-
   abbrev CutFits : ℕ → ℕ → Type 0
   CutFits low n = (n < 2 ^ 64) × (is_cut low to n ≡ true)
 
@@ -143,10 +142,12 @@ module _ (to : ℕ) (in_range : to < 2 ^ 64) where
       texts : (cuts : List ℕ) → EachFits (suc n) low to cuts → cuts_text_of cuts ≡ le64 (head_of cuts) ++ cuts_text_of (tail_of cuts)
       texts [] f = absurd (omega (arith, f.0))
       texts (cut ∷ cuts) f = flat_map-cons le64 cut cuts
+
       whole : (cut : ℕ) (cuts : List ℕ) → CutFits low cut → Later low n cut cuts → (head_of cuts ≡ cut) × EachFits (suc n) low to cuts
       whole cut cuts h f =
           let p = cut_from_is low to cut h.1 in
           (ap head_of f.0, subst (EachFits (suc n) low to) (sym f.0) (ap suc f.1.0, (p.0, p.1, f.1.1)))
+
       parts : (cuts : List ℕ) → EachFits (suc n) low to cuts → CutFits low (head_of cuts) × Later low n (head_of cuts) cuts
       parts [] f = absurd (omega (arith, f.0))
       parts (cut ∷ cuts) f = ((omega arith, is_cut_from low to cut f.1.0 f.1.1), (refl, (omega (arith, f.0), f.1.2)))
@@ -166,8 +167,8 @@ module _ (to : ℕ) (in_range : to < 2 ^ 64) where
       (first_joins n low)
       (spells_u64 (Cut 0 to true 0 0 low) (λ c. is_cut low to c) refl (λ t. refl))
       (λ cut h.
-          spells_bind tail_of cuts_text_of (EachFits n cut to) (each_cut_at n cut to) (λ rest cuts. []) (λ rest cuts. cuts ≡ cut ∷ rest) (λ rest bytes. Ok (cut ∷ rest, bytes)) (λ cuts. cuts_text_of (tail_of cuts)) (Later low n cut)
-          (later_joins n low cut) (each_spells n cut) (λ rest f. spells_done (cut ∷ rest)))
+      spells_bind tail_of cuts_text_of (EachFits n cut to) (each_cut_at n cut to) (λ rest cuts. []) (λ rest cuts. cuts ≡ cut ∷ rest) (λ rest bytes. Ok (cut ∷ rest, bytes)) (λ cuts. cuts_text_of (tail_of cuts)) (Later low n cut)
+      (later_joins n low cut) (each_spells n cut) (λ rest f. spells_done (cut ∷ rest)))
 
   -- the number of cuts, and the cuts
   abbrev pub SomeFit : ℕ → List ℕ → Type 0
@@ -235,18 +236,18 @@ bottom_spells format from to in_range =
     })
     (spells_byte (LastFlag format from to) (λ n. is_flag format n) refl (λ t. refl))
     (λ n h.
-        spells_bind (λ (b : Bottom). b.cuts) (cuts_text format) (CutsFit format from to) (cuts_at format from to)
-        (λ cuts b. []) (λ cuts b. b ≡ record { last = eqb n 1; cuts = cuts }) (λ cuts bytes. Ok (record { last = eqb n 1; cuts = cuts }, bytes))
-        (λ b. cuts_text format b.cuts) (λ b. (b.last ≡ eqb n 1) × CutsFit format from to b.cuts)
-        (record {
-          texts = λ b f. sym (append-nil (cuts_text format b.cuts));
-          whole = λ cuts b h e.
-              let second : b.cuts ≡ cuts = ap (λ (z : Bottom). z.cuts) e in
-              (second, (ap (λ (z : Bottom). z.last) e, subst (CutsFit format from to) (sym second) h));
-          parts = λ b f. (f.1, λ i. record { last = f.0 i; cuts = b.cuts });
-        })
-        (cuts_spells format from to in_range)
-        (λ cuts h. spells_done (record { last = eqb n 1; cuts = cuts })))
+    spells_bind (λ (b : Bottom). b.cuts) (cuts_text format) (CutsFit format from to) (cuts_at format from to)
+    (λ cuts b. []) (λ cuts b. b ≡ record { last = eqb n 1; cuts = cuts }) (λ cuts bytes. Ok (record { last = eqb n 1; cuts = cuts }, bytes))
+    (λ b. cuts_text format b.cuts) (λ b. (b.last ≡ eqb n 1) × CutsFit format from to b.cuts)
+    (record {
+      texts = λ b f. sym (append-nil (cuts_text format b.cuts));
+      whole = λ cuts b h e.
+          let second : b.cuts ≡ cuts = ap (λ (z : Bottom). z.cuts) e in
+          (second, (ap (λ (z : Bottom). z.last) e, subst (CutsFit format from to) (sym second) h));
+      parts = λ b f. (f.1, λ i. record { last = f.0 i; cuts = b.cuts });
+    })
+    (cuts_spells format from to in_range)
+    (λ cuts h. spells_done (record { last = eqb n 1; cuts = cuts })))
 
 -- ---- the header
 
@@ -331,13 +332,15 @@ module _ (format : Format) where
       (record {
         texts = λ h f. refl;
         whole = λ r h g e.
-            let same : (h.from, h.to) ≡ r = ap (λ (z : Header). (z.from, z.to)) e.0 in
-            (same, (
-              e.0 ∙ ap (λ (z : ℕ × ℕ). made z h.bottom h.count) (sym same),
-              subst RangeFits (sym same) g,
-              subst (λ (z : ℕ × ℕ). BottomFits format z.0 z.1 h.bottom) (sym same) e.1,
-              subst (λ (z : ℕ × ℕ). CountFits z h.bottom h.count) (sym same) e.2,
-            ));
+            let same : (h.from, h.to) ≡ r = ap (λ (z : Header). (z.from, z.to)) e.0 in (
+              same,
+              (
+                e.0 ∙ ap (λ (z : ℕ × ℕ). made z h.bottom h.count) (sym same),
+                subst RangeFits (sym same) g,
+                subst (λ (z : ℕ × ℕ). BottomFits format z.0 z.1 h.bottom) (sym same) e.1,
+                subst (λ (z : ℕ × ℕ). CountFits z h.bottom h.count) (sym same) e.2,
+              ),
+            );
         parts = λ h f. (f.1, (f.0, f.2, f.3));
       })
       range_spells
@@ -355,14 +358,16 @@ header_plain =
     (record {
       texts = λ h f. refl;
       whole = λ f h g e.
-          let same : h.format ≡ f = ap (λ (z : Header). z.format) e.0 in
-          (same, record {
-            range = e.1.0;
-            in_range = e.1.1;
-            bottom = subst (λ (z : Format). BottomFits z h.from h.to h.bottom) (sym same) e.2;
-            counted = e.3.1;
-            few = e.3.0;
-          });
+          let same : h.format ≡ f = ap (λ (z : Header). z.format) e.0 in (
+            same,
+            record {
+              range = e.1.0;
+              in_range = e.1.1;
+              bottom = subst (λ (z : Format). BottomFits z h.from h.to h.bottom) (sym same) e.2;
+              counted = e.3.1;
+              few = e.3.0;
+            },
+          );
       parts = λ h f. (tt, (refl, (f.range, f.in_range), f.bottom, (f.few, f.counted)));
     })
     format_spells

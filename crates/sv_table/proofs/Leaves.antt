@@ -27,7 +27,6 @@ below_16 : (text : List ℕ) → IsBytes text → from_le_bytes w16 text < 2 ^ 1
 below_16 text fits = omega (arith, fits 0, fits 1)
 
 module _ (field : Field) where
-
   pub spells_u64 : (test : ℕ → Bool) → 8 ≡ width field → ((text : List ℕ) → meets field text ≡ test (from_le_bytes w64 text))
       → Spells (to_le_bytes w64) (λ n. (n < 2 ^ 64) × (test n ≡ true)) (λ bytes. checked test bytes (number_at w64 bytes))
   spells_u64 test wide rule =
@@ -35,8 +34,8 @@ module _ (field : Field) where
       (λ bytes. reads_number field w64 test bytes wide rule)
       (λ t is fits. (le_bytes_8 t (from_le_bytes w64 t) (is.whole ∙ sym wide) fits refl, (below_64 t fits, sym (rule t) ∙ is.rule)))
       (λ n f.
-          let back = from_le_bytes-to_le_bytes_8 n f.0 in
-          (record { whole = wide; rule = rule (to_le_bytes w64 n) ∙ ap test back ∙ f.1 }, back))
+      let back = from_le_bytes-to_le_bytes_8 n f.0 in
+      (record { whole = wide; rule = rule (to_le_bytes w64 n) ∙ ap test back ∙ f.1 }, back))
 
   pub spells_any_u64 : 8 ≡ width field → ((text : List ℕ) → meets field text ≡ true) → Spells (to_le_bytes w64) (λ n. n < 2 ^ 64) (number_at w64)
   spells_any_u64 wide rule =
@@ -52,8 +51,8 @@ module _ (field : Field) where
       (λ bytes. reads_number field w32 test bytes wide rule)
       (λ t is fits. (le_bytes_4 t (from_le_bytes w32 t) (is.whole ∙ sym wide) fits refl, (below_32 t fits, sym (rule t) ∙ is.rule)))
       (λ n f.
-          let back = from_le_bytes-to_le_bytes_4 n f.0 in
-          (record { whole = wide; rule = rule (to_le_bytes w32 n) ∙ ap test back ∙ f.1 }, back))
+      let back = from_le_bytes-to_le_bytes_4 n f.0 in
+      (record { whole = wide; rule = rule (to_le_bytes w32 n) ∙ ap test back ∙ f.1 }, back))
 
   pub spells_u16 : (test : ℕ → Bool) → 2 ≡ width field → ((text : List ℕ) → meets field text ≡ test (from_le_bytes w16 text))
       → Spells (to_le_bytes w16) (λ n. (n < 2 ^ 16) × (test n ≡ true)) (λ bytes. checked test bytes (number_at w16 bytes))
@@ -62,8 +61,8 @@ module _ (field : Field) where
       (λ bytes. reads_number field w16 test bytes wide rule)
       (λ t is fits. (le_bytes_2 t (from_le_bytes w16 t) (is.whole ∙ sym wide) fits refl, (below_16 t fits, sym (rule t) ∙ is.rule)))
       (λ n f.
-          let back = from_le_bytes-to_le_bytes_2 n f.0 in
-          (record { whole = wide; rule = rule (to_le_bytes w16 n) ∙ ap test back ∙ f.1 }, back))
+      let back = from_le_bytes-to_le_bytes_2 n f.0 in
+      (record { whole = wide; rule = rule (to_le_bytes w16 n) ∙ ap test back ∙ f.1 }, back))
 
   pub spells_byte : (test : ℕ → Bool) → 1 ≡ width field → ((text : List ℕ) → meets field text ≡ test (byte text))
       → Spells (λ n. n ∷ []) (λ n. test n ≡ true) (λ bytes. checked test bytes (byte_at bytes))

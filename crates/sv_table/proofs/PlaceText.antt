@@ -154,9 +154,9 @@ module _ (h : Header) (bytes places key : List ℕ) (cut : ℕ) where
       below = n.below;
       above = λ rows a o k d over less.
           not_true (ahead (get_or rows k d)) (λ yes'.
-              let so = parted key_of_kept end_of_kept key cut rows o middle k d over less yes' in
-              let clash : true ≡ false = sym so ∙ ap ahead (sym (here rows a d)) ∙ e in
-              absurd (cc clash));
+          let so = parted key_of_kept end_of_kept key cut rows o middle k d over less yes' in
+          let clash : true ≡ false = sym so ∙ ap ahead (sym (here rows a d)) ∙ e in
+          absurd (cc clash));
     }
 
 -- what a slice to the end has

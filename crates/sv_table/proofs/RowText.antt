@@ -100,8 +100,10 @@ put_joins n one = record { texts = texts; whole = whole; parts = parts }
     texts : (op : Op) → Marked n op → op_tail op ≡ (le16 (length (value_in op)) ++ value_in op) ++ []
     texts (Put v) f = sym (append-nil (le16 (length v) ++ v))
     texts Delete f = absurd (omega (arith, f.0, one))
+
     whole : (v : List ℕ) (op : Op) → ValueFits v → op ≡ Put v → (value_in op ≡ v) × Marked n op
     whole v op h e = subst (λ (z : Op). (value_in z ≡ v) × Marked n z) (sym e) (refl, (sym one, h))
+
     parts : (op : Op) → Marked n op → ValueFits (value_in op) × (op ≡ Put (value_in op))
     parts (Put v) f = (f.1, refl)
     parts Delete f = absurd (omega (arith, f.0, one))
@@ -206,12 +208,14 @@ module _ (shape : Shape) (left : ℕ) (seen : Seen) where
       (record {
         texts = λ e f. refl;
         whole = λ key e h g.
-            let same : e.key ≡ key = ap (λ (z : Entry). z.key) g.0 in
-            (same, record {
-              key = subst (KeyFits shape seen) (sym same) h;
-              number = subst (λ (k : List ℕ). NumberFits shape shape.format seen k e.number) (sym same) g.1;
-              op = g.2;
-            });
+            let same : e.key ≡ key = ap (λ (z : Entry). z.key) g.0 in (
+              same,
+              record {
+                key = subst (KeyFits shape seen) (sym same) h;
+                number = subst (λ (k : List ℕ). NumberFits shape shape.format seen k e.number) (sym same) g.1;
+                op = g.2;
+              },
+            );
         parts = λ e f. (f.key, (refl, f.number, f.op));
       })
       (key_spells shape seen) (λ key h. end_rest key)
@@ -261,9 +265,11 @@ module _ (shape : Shape) where
       texts : (entries : List Entry) → EntriesFit shape (suc n) seen entries → entries_text shape.format entries ≡ entry_text shape.format (head_of entries) ++ entries_text shape.format (tail_of entries)
       texts [] f = absurd (omega (arith, f.0))
       texts (e ∷ entries) f = flat_map-cons (entry_text shape.format) e entries
+
       whole : (e : Entry) (entries : List Entry) → EntryFits shape n seen e → Later n seen e entries → (head_of entries ≡ e) × EntriesFit shape (suc n) seen entries
       whole e entries h f =
           (ap head_of f.0, subst (EntriesFit shape (suc n) seen) (sym f.0) (ap suc f.1.0, (subst (λ (m : ℕ). EntryFits shape m seen e) (sym f.1.0) h, f.1.1)))
+
       parts : (entries : List Entry) → EntriesFit shape (suc n) seen entries → EntryFits shape n seen (head_of entries) × Later n seen (head_of entries) entries
       parts [] f = absurd (omega (arith, f.0))
       parts (e ∷ entries) f =
@@ -285,8 +291,8 @@ module _ (shape : Shape) where
       (first_joins n seen)
       (entry_spells shape n seen)
       (λ e h.
-          spells_bind tail_of (entries_text shape.format) (EntriesFit shape n (see_entry seen e)) (entries_at shape n (see_entry seen e)) (λ rest entries. []) (λ rest entries. entries ≡ e ∷ rest) (λ rest bytes. Ok (e ∷ rest, bytes)) (λ entries. entries_text shape.format (tail_of entries)) (Later n seen e)
-          (later_joins n seen e) (entries_spells n (see_entry seen e)) (λ rest f. spells_done (e ∷ rest)))
+      spells_bind tail_of (entries_text shape.format) (EntriesFit shape n (see_entry seen e)) (entries_at shape n (see_entry seen e)) (λ rest entries. []) (λ rest entries. entries ≡ e ∷ rest) (λ rest bytes. Ok (e ∷ rest, bytes)) (λ entries. entries_text shape.format (tail_of entries)) (Later n seen e)
+      (later_joins n seen e) (entries_spells n (see_entry seen e)) (λ rest f. spells_done (e ∷ rest)))
 
 -- ---- the range of the keys
 
@@ -303,17 +309,17 @@ exact_spells key =
     })
     (spells_byte (LeastLength key key) (λ n. eqb n (length key)) refl (λ t. refl))
     (λ n h.
-        spells_bind (λ (k : List ℕ). k) (λ k. k) (λ k. (length k ≡ n) × (bytes_eq k key ≡ true)) (λ bytes. checked (λ k. bytes_eq k key) bytes (bytes_at n bytes))
-        (λ k c. []) (λ k c. c ≡ key) (λ k bytes. Ok (key, bytes)) (λ k. k) (λ k. (length k ≡ n) × (k ≡ key))
-        (record {
-          texts = λ k f. sym (append-nil k);
-          whole = λ k c g e.
-              let same : c ≡ k = e ∙ sym ((bytes_eq-Decides k key).0 g.1) in
-              (same, (ap (λ (z : List ℕ). length z) same ∙ g.0, e));
-          parts = λ k f. ((f.0, (bytes_eq-Decides k key).1 f.1), f.1);
-        })
-        (spells_these (LeastKey key key n) n (λ k. bytes_eq k key) refl (λ t. refl))
-        (λ k g. spells_done key))
+    spells_bind (λ (k : List ℕ). k) (λ k. k) (λ k. (length k ≡ n) × (bytes_eq k key ≡ true)) (λ bytes. checked (λ k. bytes_eq k key) bytes (bytes_at n bytes))
+    (λ k c. []) (λ k c. c ≡ key) (λ k bytes. Ok (key, bytes)) (λ k. k) (λ k. (length k ≡ n) × (k ≡ key))
+    (record {
+      texts = λ k f. sym (append-nil k);
+      whole = λ k c g e.
+          let same : c ≡ k = e ∙ sym ((bytes_eq-Decides k key).0 g.1) in
+          (same, (ap (λ (z : List ℕ). length z) same ∙ g.0, e));
+      parts = λ k f. ((f.0, (bytes_eq-Decides k key).1 f.1), f.1);
+    })
+    (spells_these (LeastKey key key n) n (λ k. bytes_eq k key) refl (λ t. refl))
+    (λ k g. spells_done key))
 
 abbrev pub tail_text : Format → List ℕ → List ℕ → List ℕ
 tail_text format least greatest = cond (has_range format least) (key_text least ++ key_text greatest) []

@@ -63,7 +63,6 @@ spells_done {C} c = record {
 -- A part of what is read comes first, and tells how the rest is read.
 module _ {A C : Type 0} (part : C → A) (head : A → List ℕ) (HeadFits : A → Type 0) (first : List ℕ → Result (A × List ℕ) ℕ)
     (tail : A → C → List ℕ) (TailFits : A → C → Type 0) (next : A → List ℕ → Result (C × List ℕ) ℕ) (text : C → List ℕ) (Fits : C → Type 0) where
-
   pub record Joins : Type 0 where
     pub texts : (c : C) → Fits c → text c ≡ head (part c) ++ tail (part c) c
     pub whole : (a : A) (c : C) → HeadFits a → TailFits a c → (part c ≡ a) × Fits c
@@ -77,9 +76,9 @@ module _ {A C : Type 0} (part : C → A) (head : A → List ℕ) (HeadFits : A �
       let w = joins.whole b.0.0 x.0 one.fits two.fits in
       record {
         parts = one.parts ∙ ap (λ (z : List ℕ). head b.0.0 ++ z) two.parts
-        ∙ sym (append_assoc (head b.0.0) (tail b.0.0 x.0) x.1)
-        ∙ ap (λ (a : A). (head a ++ tail a x.0) ++ x.1) (sym w.0)
-        ∙ ap (λ (z : List ℕ). z ++ x.1) (sym (joins.texts x.0 w.1));
+            ∙ sym (append_assoc (head b.0.0) (tail b.0.0 x.0) x.1)
+            ∙ ap (λ (a : A). (head a ++ tail a x.0) ++ x.1) (sym w.0)
+            ∙ ap (λ (z : List ℕ). z ++ x.1) (sym (joins.texts x.0 w.1));
         rest_fits = two.rest_fits;
         fits = w.1;
       }

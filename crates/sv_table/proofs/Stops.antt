@@ -34,8 +34,8 @@ unfolding range_at
 range_walks format bytes =
     walks_then (From format) (λ from. To format from) _ bytes _ _ (walks_field (From format) (from_le_bytes w64) (λ from. To format from) bytes _ (λ t. refl) (reads_any_number (From format) w64 bytes refl (λ t. refl)))
     (λ from after_from e.
-        walks_then (To format from) (λ to. LastFlag format from to) (λ (r : ℕ × ℕ). LastFlag format r.0 r.1) after_from _ _ (walks_field (To format from) (from_le_bytes w64) (λ to. LastFlag format from to) after_from _ (λ t. refl) (reads_number (To format from) w64 _ after_from refl (λ t. refl)))
-        (λ to rest e. walks_done (λ (r : ℕ × ℕ). LastFlag format r.0 r.1) (from, to) rest))
+    walks_then (To format from) (λ to. LastFlag format from to) (λ (r : ℕ × ℕ). LastFlag format r.0 r.1) after_from _ _ (walks_field (To format from) (from_le_bytes w64) (λ to. LastFlag format from to) after_from _ (λ t. refl) (reads_number (To format from) w64 _ after_from refl (λ t. refl)))
+    (λ to rest e. walks_done (λ (r : ℕ × ℕ). LastFlag format r.0 r.1) (from, to) rest))
 
 module _ (from to : ℕ) (last : Bool) where
   abbrev counted : Format → ℕ → Field
@@ -47,8 +47,8 @@ module _ (from to : ℕ) (last : Bool) where
   each_walks all (suc n) low bytes =
       walks_then (Cut from to last all n low) (λ c. next_cut from to last all n c) (λ cuts. counted Three all) bytes _ _ (walks_field (Cut from to last all n low) (from_le_bytes w64) (λ c. next_cut from to last all n c) bytes _ (λ t. refl) (reads_number (Cut from to last all n low) w64 _ bytes refl (λ t. refl)))
       (λ c rest e.
-          walks_then (next_cut from to last all n c) (λ cuts. counted Three all) (λ cuts. counted Three all) rest (each_cut_at n c to rest) (λ cuts. Ok (c ∷ cuts.0, cuts.1)) (each_walks all n c rest)
-          (λ cuts more e. walks_done (λ (cuts : List ℕ). counted Three all) (c ∷ cuts) more))
+      walks_then (next_cut from to last all n c) (λ cuts. counted Three all) (λ cuts. counted Three all) rest (each_cut_at n c to rest) (λ cuts. Ok (c ∷ cuts.0, cuts.1)) (each_walks all n c rest)
+      (λ cuts more e. walks_done (λ (cuts : List ℕ). counted Three all) (c ∷ cuts) more))
 
 each_length : (n low to : ℕ) (bytes : List ℕ) (x : List ℕ × List ℕ) → each_cut_at n low to bytes ≡ Ok x → length x.0 ≡ n
 unfolding each_cut_at
@@ -67,8 +67,8 @@ module _ (from to : ℕ) (last : Bool) where
   some_walks bytes =
       walks_then (CutCount from to last) (λ n. next_cut from to last n n from) _ bytes _ _ (walks_field (CutCount from to last) byte (λ n. next_cut from to last n n from) bytes _ (λ t. refl) (reads_byte (CutCount from to last) _ bytes refl (λ t. refl)))
       (λ n rest e.
-          renamed (next_cut from to last n n from) (λ (cuts : List ℕ). counted from to last Three n) (λ cuts. counted from to last Three (length cuts)) rest (each_cut_at n from to rest)
-          (λ cuts more e. ap (counted from to last Three) (each_length n from to rest (cuts, more) e)) (each_walks from to last n n from rest))
+      renamed (next_cut from to last n n from) (λ (cuts : List ℕ). counted from to last Three n) (λ cuts. counted from to last Three (length cuts)) rest (each_cut_at n from to rest)
+      (λ cuts more e. ap (counted from to last Three) (each_length n from to rest (cuts, more) e)) (each_walks from to last n n from rest))
 
   cuts_walks : (format : Format) (bytes : List ℕ) → Walks (after_flag format from to last) (λ cuts. counted from to last format (length cuts)) bytes (cond (has_cuts format) (some_cuts_at from to bytes) (Ok ([], bytes)))
   cuts_walks One bytes = walks_done (λ (cuts : List ℕ). counted from to last One (length cuts)) [] bytes
@@ -84,8 +84,8 @@ module _ (format : Format) (from to : ℕ) where
   bottom_walks bytes =
       walks_then (LastFlag format from to) (λ n. after_flag format from to (eqb n 1)) after_bottom bytes _ _ (walks_field (LastFlag format from to) byte (λ n. after_flag format from to (eqb n 1)) bytes _ (λ t. refl) (reads_byte (LastFlag format from to) _ bytes refl (λ t. refl)))
       (λ n rest e.
-          walks_then (after_flag format from to (eqb n 1)) (λ cuts. counted from to (eqb n 1) format (length cuts)) after_bottom rest (cond (has_cuts format) (some_cuts_at from to rest) (Ok ([], rest))) (λ cuts. Ok (record { last = eqb n 1; cuts = cuts.0 }, cuts.1)) (cuts_walks from to (eqb n 1) format rest)
-          (λ cuts more e. walks_done after_bottom (record { last = eqb n 1; cuts = cuts }) more))
+      walks_then (after_flag format from to (eqb n 1)) (λ cuts. counted from to (eqb n 1) format (length cuts)) after_bottom rest (cond (has_cuts format) (some_cuts_at from to rest) (Ok ([], rest))) (λ cuts. Ok (record { last = eqb n 1; cuts = cuts.0 }, cuts.1)) (cuts_walks from to (eqb n 1) format rest)
+      (λ cuts more e. walks_done after_bottom (record { last = eqb n 1; cuts = cuts }) more))
 
 abbrev after_header : Header → Field
 after_header h = next_row (shape_of h) h.count start
@@ -175,16 +175,16 @@ unfolding exact_key_at
 least_walks least greatest bytes =
     walks_then (LeastLength least greatest) (λ len. LeastKey least greatest len) _ bytes _ _ (walks_field (LeastLength least greatest) byte (λ len. LeastKey least greatest len) bytes _ (λ t. refl) (reads_byte (LeastLength least greatest) _ bytes refl (λ t. refl)))
     (λ len rest e.
-        walks_then (LeastKey least greatest len) (λ (k : List ℕ). GreatestLength greatest) _ rest _ _ (walks_field (LeastKey least greatest len) (λ t. t) (λ k. GreatestLength greatest) rest _ (λ t. refl) (reads_bytes (LeastKey least greatest len) len _ rest refl (λ t. refl)))
-        (λ k more e. walks_done (λ (k : List ℕ). GreatestLength greatest) least more))
+    walks_then (LeastKey least greatest len) (λ (k : List ℕ). GreatestLength greatest) _ rest _ _ (walks_field (LeastKey least greatest len) (λ t. t) (λ k. GreatestLength greatest) rest _ (λ t. refl) (reads_bytes (LeastKey least greatest len) len _ rest refl (λ t. refl)))
+    (λ k more e. walks_done (λ (k : List ℕ). GreatestLength greatest) least more))
 
 greatest_walks : (greatest bytes : List ℕ) → Walks (GreatestLength greatest) (λ (k : List ℕ). End) bytes (exact_key_at greatest bytes)
 unfolding exact_key_at
 greatest_walks greatest bytes =
     walks_then (GreatestLength greatest) (λ len. GreatestKey greatest len) _ bytes _ _ (walks_field (GreatestLength greatest) byte (λ len. GreatestKey greatest len) bytes _ (λ t. refl) (reads_byte (GreatestLength greatest) _ bytes refl (λ t. refl)))
     (λ len rest e.
-        walks_then (GreatestKey greatest len) (λ (k : List ℕ). End) _ rest _ _ (walks_field (GreatestKey greatest len) (λ t. t) (λ k. End) rest _ (λ t. refl) (reads_bytes (GreatestKey greatest len) len _ rest refl (λ t. refl)))
-        (λ k more e. walks_done (λ (k : List ℕ). End) greatest more))
+    walks_then (GreatestKey greatest len) (λ (k : List ℕ). End) _ rest _ _ (walks_field (GreatestKey greatest len) (λ t. t) (λ k. End) rest _ (λ t. refl) (reads_bytes (GreatestKey greatest len) len _ rest refl (λ t. refl)))
+    (λ k more e. walks_done (λ (k : List ℕ). End) greatest more))
 
 tail_walks : (format : Format) (least greatest bytes : List ℕ) → Walks (after_rows format least greatest) (λ (k : List ℕ). End) bytes (tail_at format least greatest bytes)
 unfolding tail_at

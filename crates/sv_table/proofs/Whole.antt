@@ -1,17 +1,21 @@
 -- What reading a whole file owes.
-use Rattle.std.proofs.Common.{◌≡◌, ℕ, ◌-◌, List, [], ◌++◌, length, map, Option, Result, Ok, Err, refl, sym, ap, subst, ◌∙◌}
+use Rattle.std.proofs.Common.{◌≡◌, ℕ, ◌-◌, Bool, true, cond, eqb, List, [], ◌++◌, length, map, Option, Result, Ok, Err, refl, sym, ap, subst, ◌∙◌}
 use Rattle.sv_model.specs.declared.writes.Kept.{Kept}
 use Rattle.sv_model.specs.declared.writes.Op.{Op}
 use Rattle.sv_model.specs.declared.cuts.Bottom.{Bottom}
 use Rattle.sv_model.specs.TableText.{IsTextOf, IsTableFile}
-use Rattle.sv_table.specs.Decoding.{IsBadFile, IsHeadOf}
+use Rattle.sv_table.specs.Decoding.{IsBadFile, IsHeadOf, IsTable}
 use Rattle.sv_table.specs.Lookups.{op_upto, found_in, IsFoundIn}
-use Rattle.sv_table.specs.Reading.{Header, Entry, HasRows, entries_in, kept_in, kept_of, header_at, file_at}
+use Rattle.sv_model.specs.TableTextFields.{Seen, start}
+use Rattle.sv_model.specs.Order.{OrderedBy, key_of_kept, end_of_kept}
+use Rattle.sv_table.specs.Places.{ArePlaces, IsIndexed}
+use Rattle.sv_table.specs.Reading.{Header, Entry, HasRows, entries_in, kept_in, kept_of, ◌>>=◌, walked, tail_at, ended, header_at, file_at}
 use Rattle.sv_table.specs.declared.heads.Head.{Head}
 use Rattle.sv_table.proofs.OneField.{IsBytes}
 use Rattle.sv_table.proofs.Runs.{ok_is}
 use Rattle.sv_table.proofs.HeaderText.{text_of}
-use Rattle.sv_table.proofs.FileText.{IsRead, IsReadAs, file_takes, file_again, rows_are, same_rows}
+use Rattle.sv_table.proofs.FileText.{IsRead, IsReadAs, file_takes, file_again, rows_are, same_rows, texts_are}
+use Rattle.sv_table.proofs.Spelling.{bind_path}
 use Rattle.sv_table.proofs.Stops.{bad_place}
 
 not_text : (bytes : List ℕ) (left : ℕ) → file_at bytes ≡ Err left → IsTableFile bytes → ⊥
@@ -23,19 +27,10 @@ not_text bytes left e t =
 pub bad_file : (bytes : List ℕ) (left : ℕ) → file_at bytes ≡ Err left → IsBadFile bytes (length bytes - left)
 bad_file bytes left e = record { none = not_text bytes left e; bad = bad_place bytes left e }
 
--- the table of a file that was read
-pub record IsTable (bytes : List ℕ) (h : Header) (rest : List ℕ) : Type 0 where
-  pub rows : List Kept
-  pub stand : HasRows h rest
-  pub are : kept_in h (entries_in h rest) ≡ Ok rows
-  pub text : IsTextOf bytes h.from h.to h.bottom rows
-  pub count : h.count ≡ length rows
-  pub front : bytes ≡ text_of h ++ rest
-
 pub table_is : (bytes : List ℕ) (h : Header) (rest : List ℕ) → IsBytes bytes → file_at bytes ≡ Ok (h, rest) → IsTable bytes h rest
 table_is bytes h rest fits e =
     let r = file_takes bytes (h, rest) fits e in
-    record { rows = r.0; stand = r.1.stand; are = rows_are h rest r.1.stand r.0 r.1.are; text = r.1.text; count = r.1.count; front = r.1.front }
+    record { rows = r.0; stand = r.1.stand; are = rows_are h rest r.1.stand r.0 r.1.are; text = r.1.text; count = r.1.count; front = (text_of h, r.1.front) }
 
 pub file_is : (bytes : List ℕ) (h : Header) (rest : List ℕ) → IsTable bytes h rest → IsTableFile bytes
 file_is bytes h rest t = record { from = h.from; to = h.to; bottom = h.bottom; rows = t.rows; text = t.text }
@@ -87,3 +82,24 @@ found_is bytes key cut h rest found e is = record {
       let all : kept_in h (entries_in h rest) ≡ Ok rows = subst (λ (z : Header × List ℕ). kept_in z.0 (entries_in z.0 z.1) ≡ Ok rows) same (rows_are r.header r.rest r.stand rows r.are) in
       is ∙ found_rows h key cut (entries_in h rest) rows all;
 }
+
+-- What is found by the places is what the table has.
+pub found_by_places : (h : Header) (bytes places key : List ℕ) (cut : ℕ) (found : Option Op) → IsIndexed h bytes places → ((rows : List Kept) → ArePlaces h bytes places rows → OrderedBy key_of_kept end_of_kept rows → found ≡ op_upto key cut rows) → IsFoundIn bytes key cut found
+found_by_places h bytes places key cut found x answers = record {
+  of = λ from to bottom rows t.
+      let same = texts_are bytes h.from h.to from to h.bottom bottom x.rows rows x.text t in
+      subst (λ (l : List Kept). found ≡ op_upto key cut l) same.rows_are (answers x.rows x.are x.text.has.well_formed.ordered);
+}
+
+pub indexed : (bytes : List ℕ) (h : Header) (rest places : List ℕ) (t : IsTable bytes h rest) → ((all : List Kept) → kept_in h (entries_in h rest) ≡ Ok all → ArePlaces h bytes places all) → IsIndexed h bytes places
+indexed bytes h rest places t are = record { rows = t.rows; text = t.text; count = t.count; are = are t.rows t.are }
+
+-- The parts of a file were read, so the file is.
+pub file_reads : (bytes : List ℕ) (h : Header) (rows : List ℕ) (s : Seen) (after : List ℕ) (greatest rest : List ℕ) → header_at bytes ≡ Ok (h, rows) → walked start (entries_in h rows) ≡ Ok (s, after)
+    → tail_at h.format s.first s.key after ≡ Ok (greatest, rest) → eqb (length rest) 0 ≡ true → file_at bytes ≡ Ok (h, rows)
+unfolding file_at
+file_reads bytes h rows s after greatest rest a b c d =
+    bind_path (header_at bytes) (λ x. walked start (entries_in x.0 x.1) >>= λ s. tail_at x.0.format s.0.first s.0.key s.1 >>= λ t. ended x t.1) (h, rows) (Ok (h, rows)) a
+    (bind_path (walked start (entries_in h rows)) (λ s. tail_at h.format s.0.first s.0.key s.1 >>= λ t. ended (h, rows) t.1) (s, after) (Ok (h, rows)) b
+    (bind_path (tail_at h.format s.first s.key after) (λ t. ended (h, rows) t.1) (greatest, rest) (Ok (h, rows)) c
+    (ap (λ (z : Bool). cond z (Ok (h, rows)) (Err (length rest))) d)))
