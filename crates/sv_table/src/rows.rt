@@ -1,5 +1,5 @@
 // Reading a row.
-ghost use Rattle.std.specs.Prelude.{◌≡◌, ℕ, List, []};
+ghost use Rattle.std.specs.Prelude.{◌≡◌, ◌&&◌, ℕ, List, []};
 ghost use Rattle.sv_model.specs.Journal.{is_delete};
 ghost use Rattle.sv_model.specs.TableTextFields.{start, key_fits, number_fits, mark_fits};
 ghost use Rattle.sv_table.specs.Reading.{key_at, end_at, value_at, op_at, entry_at, see_entry, shape_of};
@@ -79,6 +79,13 @@ pub(crate) fn see<'a>(seen: Seen<'a>, row: RowAt<'a>) -> Seen<'a>
     }
 }
 
+/// Whether an older row of the key has to follow.
+fn is_open(shape: Shape, seen: Seen<'_>) -> bool
+    ensures { result ≡ (shape.last && seen.entry.deleted) }
+{
+    shape.last && seen.deleted
+}
+
 fn key_fits(shape: Shape, seen: Seen<'_>, key: &[u8]) -> bool
     ensures { result ≡ key_fits (shape_is shape) (seen_is seen.entry) key.now }
 {
@@ -87,7 +94,7 @@ fn key_fits(shape: Shape, seen: Seen<'_>, key: &[u8]) -> bool
         return order.is_lt();
     }
     match order {
-        Ordering::Less => !(shape.last && seen.deleted),
+        Ordering::Less => !is_open(shape, seen),
         Ordering::Equal => true,
         Ordering::Greater => false,
     }
