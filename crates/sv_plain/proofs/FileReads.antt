@@ -1,16 +1,19 @@
 -- What a key's row in a file's bytes does.
 use Rattle.std.proofs.Common.{◌≡◌, ◌≤◌, ◌<◌, ◌^◌, ◌-◌, ◌+◌, ℕ, Bool, true, false, cond, List, [], ◌∷◌, find, take, length, Option, Some, inl, inr, refl, sym, ap, subst, ◌∙◌, arith}
-use Rattle.std.specs.Prelude.{option_map}
+use Rattle.std.specs.Prelude.{IsSomeAnd, option_map}
 use Rattle.std.specs.List.{AllByRecursion}
 use Rattle.std.proofs.lemmas.List.{take_all}
 use Rattle.sv_model.specs.declared.Write.{Write}
 use Rattle.sv_model.specs.declared.Kept.{Kept}
 use Rattle.sv_model.specs.declared.Op.{Op}
 use Rattle.sv_model.specs.declared.Bottom.{Bottom}
+use Rattle.sv_model.specs.declared.FileMeta.{FileMeta}
 use Rattle.sv_model.specs.Flat.{AreCuts, IsFlatOf, plain, range_of}
 use Rattle.sv_model.specs.Journal.{newest_op, of_family}
 use Rattle.sv_model.specs.Order.{first_upto, key_of_kept, end_of_kept}
-use Rattle.sv_model.specs.TableText.{IsStored, IsStoredOp, IsTableFile}
+use Rattle.sv_model.specs.TableText.{IsStored, IsStoredOp, IsTableFile, IsTextOf}
+use Rattle.sv_model.specs.Files.{Files, file_of}
+use Rattle.sv_model.specs.HeldFiles.{HoldsText, IsFileText}
 use Rattle.sv_model.proofs.FlatReads.{flat_op, op_at}
 use Rattle.sv_table.specs.declared.Hit.{Hit}
 use Rattle.sv_table.specs.Lookups.{IsFoundIn, hit_op, op_upto}
@@ -40,3 +43,16 @@ newest_found journal family from to key cut rows some within high flat =
     let are : AreCuts from to [] = record { ascend = tt; few = omega arith } in
     flat_op from to plain writes rows are (omega (arith, count, some)) flat cut (inr (inl high)) key refl
     ∙ ap (newest_op key) (take_all (cut - from) writes (omega (arith, count, high)))
+
+-- What was found in the bytes of a file that is held is what the newest write of its range does.
+pub file_op : (files : Files) (journal : List Write) (family : ℕ) (file : FileMeta) (key bytes : List ℕ) (found : Option Op) → HoldsText files journal family file → file.bottom ≡ plain → ((held : List ℕ) → file_of file.number files ≡ Some held → bytes ≡ held) → IsFoundIn bytes key (2 ^ 64 - 1) found → found ≡ newest_op key (range_of journal family file.from file.to)
+file_op files journal family file key bytes found holds below read is = at (file_of file.number files) refl holds
+  where
+    at : (o : Option (List ℕ)) → file_of file.number files ≡ o → IsSomeAnd o (IsFileText journal family file) → found ≡ newest_op key (range_of journal family file.from file.to)
+    at None e h = absurd h
+    at (Some held) e h =
+        let range = range_of journal family file.from file.to in
+        let text : IsTextOf bytes file.from file.to file.bottom h.rows = record { has = h.table; are = inl (read held e ∙ h.is) } in
+        let flat : IsFlatOf file.from file.to plain range h.rows = subst (λ (b : Bottom). IsFlatOf file.from file.to b range h.rows) below h.flat in
+        is.of file.from file.to file.bottom h.rows text
+        ∙ newest_found journal family file.from file.to key (2 ^ 64 - 1) h.rows h.table.well_formed.range h.within (omega (arith, h.table.in_range)) flat

@@ -71,6 +71,24 @@ numbers_fit memtables journal above from (m ∷ members) (it ∷ its) to fits fe
     let rows = ap length h.2.rows in
     (omega (arith, count, rows, le, some, few), numbers_fit memtables journal m it.to members its to fits few h.3)
 
+-- the writes that a due file covers are made
+pub due_within : (file : FileMeta) (p : Parts) → IsDueAs file p → file.to ≤ length (of_family 0 p.journal.items)
+due_within file p h = subst (λ (l : List Write). file.to ≤ length l) (sym (all_own p.journal.items h.own)) h.within
+
+pub due_fits : (file : FileMeta) (p : Parts) → IsDueAs file p → AllByRecursion (λ (it : Immutable). it.from + length it.rows.rows < 2 ^ 64) p.immutables.items
+due_fits file p h =
+    let j = p.journal in
+    numbers_fit h.memtables j.items 0 file.from h.members p.immutables.items file.to (due_within file p h) (omega (arith, j.ok.0, j.ok.1, j.small, h.within)) h.joins
+
+pub due_rows : (file : FileMeta) (p : Parts) → IsDueAs file p → numbered_all p.immutables.items ≡ numbered_after file.from (range_of p.journal.items 0 file.from file.to)
+due_rows file p h = numbered_is h.memtables p.journal.items 0 file.from h.members p.immutables.items file.to (due_within file p h) h.joins
+
+-- as many as the file's range spans
+pub due_count : (file : FileMeta) (p : Parts) → IsDueAs file p → file.from + length (range_of p.journal.items 0 file.from file.to) ≡ file.to
+due_count file p h =
+    let count = range_count p.journal.items 0 file.from file.to (due_within file p h) in
+    omega (arith, count, h.some)
+
 -- no row of one memtable passes 64 bits
 each_fits : (first before : ℕ) (rows : List Row) → first + (before + length rows) < 2 ^ 64 → AllByRecursion (λ (n : Numbered). first + n.number < 2 ^ 64) (numbered_after before rows)
 each_fits first before [] few = tt
@@ -116,13 +134,36 @@ flat_well journal from to rows some fits few flat =
 
 -- ---- the text
 
--- The table over the file's range, as text, is the file's.
-pub text_of : (journal : List Write) (file : FileMeta) (t : Table) (bytes : List ℕ) → file.to ≤ length (of_family 0 journal) → t.from ≡ file.from → t.to ≡ file.to → t.bottom ≡ file.bottom → IsFlat journal 0 t.from t.to t.bottom t.rows → HasText t.from t.to t.bottom t.rows → bytes ≡ table_text t.from t.to t.bottom t.rows → IsFileText journal 0 file bytes
-text_of journal file t bytes within from to bottom flat table is =
-    let over : FileMeta = record { number = file.number; from = t.from; to = t.to; bottom = t.bottom } in
-    let same : over ≡ file = (λ i. record { number = file.number; from = from i; to = to i; bottom = bottom i }) in
-    let text : IsFileText journal 0 over bytes = record { within = omega (arith, within, to); rows = t.rows; flat = flat; table = table; is = is } in
-    subst (λ (f : FileMeta). IsFileText journal 0 f bytes) same text
+-- The table that was built over a due file's range.
+pub record IsBuilt (file : FileMeta) (p : Parts) (below : Bottom) (t : Table) : Type 0 where
+  pub due : IsDueAs file p
+  pub plain_is : below ≡ plain
+  pub range : (t.from ≡ file.from) × (t.to ≡ file.to) × (t.bottom ≡ below)
+  pub flat : IsFlatOf file.from file.to below (range_of p.journal.items 0 file.from file.to) t.rows
+
+module _ (file : FileMeta) (p : Parts) (below : Bottom) (t : Table) (h : IsBuilt file p below t) where
+  over : Table
+  over = record { from = file.from; to = file.to; bottom = plain; rows = t.rows }
+
+  same : over ≡ t
+  same = λ i. record { from = (sym h.range.0) i; to = (sym h.range.1) i; bottom = (sym (h.range.2 ∙ h.plain_is)) i; rows = t.rows }
+
+  flat_over : IsFlatOf file.from file.to plain (range_of p.journal.items 0 file.from file.to) t.rows
+  flat_over = subst (λ (b : Bottom). IsFlatOf file.from file.to b (range_of p.journal.items 0 file.from file.to) t.rows) h.plain_is h.flat
+
+  pub built_well : IsWellFormed t.from t.to t.bottom t.rows
+  built_well =
+      subst (λ (u : Table). IsWellFormed u.from u.to u.bottom u.rows) same
+      (flat_well p.journal.items file.from file.to t.rows h.due.some (due_within file p h.due) h.due.few flat_over)
+
+  -- its text is the file's
+  pub built_text : (bytes : List ℕ) → bytes ≡ table_text t.from t.to t.bottom t.rows → HasText t.from t.to t.bottom t.rows → IsFileText p.journal.items 0 file bytes
+  built_text bytes is table =
+      let mine : FileMeta = record { number = file.number; from = t.from; to = t.to; bottom = t.bottom } in
+      let to_file : mine ≡ file = (λ i. record { number = file.number; from = h.range.0 i; to = h.range.1 i; bottom = (h.range.2 ∙ h.plain_is ∙ sym h.due.above) i }) in
+      let flat : IsFlat p.journal.items 0 t.from t.to t.bottom t.rows = subst (λ (u : Table). IsFlat p.journal.items 0 u.from u.to u.bottom u.rows) same flat_over in
+      let text : IsFileText p.journal.items 0 mine bytes = record { within = omega (arith, due_within file p h.due, h.range.1); rows = t.rows; flat = flat; table = table; is = is } in
+      subst (λ (f : FileMeta). IsFileText p.journal.items 0 f bytes) to_file text
 
 pub both_ok : {T E : Type 0} (P Q R : T → Type 0) (r : Result T E) → IfOk r P → IfOk r Q → ((x : T) → P x → Q x → R x) → IfOk r R
 both_ok P Q R (Ok x) p q f = f x p q

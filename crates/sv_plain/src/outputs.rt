@@ -68,9 +68,8 @@ impl Parts {
         requires { IsDueAs file.now self.now }
         ensures { IfOk result (λ text. IsFileText self.now.journal.items 0 file.now text.items) }
     {
-        let to = file.to;
         let rows = all_rows(self.alloc, self.immutables.as_slice())?;
-        let table = build(self.alloc, &rows, file.from, to, Bottom::plain())?;
+        let table = build(self.alloc, &rows, file.from, file.to, Bottom::plain())?;
         encode(self.alloc, &table)
     }
 

@@ -79,4 +79,4 @@ returns-clause-end g c =
     all_tried _ _ _ _ _ _ _ _ h.tried (left_none c.loop-number.files.numbers h.from (subst (AreLeft c.loop-number.files.numbers h.from) none h.rest))
 
 pub returns-in_default-clause-end : goal.returns-in_default-clause-end
-returns-in_default-clause-end g c = ?
+returns-in_default-clause-end g c = one_left c.args.files.now.numbers c.in_default.ensures.none.0 c.in_default.ensures.none.1
