@@ -16,9 +16,9 @@ use Rattle.sv_model.proofs.FlatFirsts.{firsts, mark, marks, has_key, NumbersFall
 use Rattle.sv_model.proofs.FlatLaws.{flat_of_keys}
 use Rattle.sv_model.proofs.FlatRanges.{range_fit, range_none, range_parts}
 use Rattle.sv_merge.specs.Placing.{same_place, thinned}
-use Rattle.sv_merge.specs.Merging.{Joined, JoinedWith, NoneLast, AreClear, newest_rows, moved, IsMergeOf, IsFlatTable, AreFlats, InOrder}
+use Rattle.sv_merge.specs.Merging.{Joined, JoinedWith, NoneLast, EachClear, newest_rows, moved, IsMergeOf, IsFlatTable, AreFlats, InOrder}
 use Rattle.sv_merge.proofs.SameFirsts.{SameFirsts, same_join, same_refl, same_trans, same_twice, oldest_stays}
-use Rattle.sv_merge.proofs.Stays.{dedup_firsts, left_rises, left_key}
+use Rattle.sv_merge.proofs.ThinnedLaws.{dedup_firsts, left_rises, left_key}
 
 -- ---- the rows of all tables, of a key
 
@@ -27,7 +27,8 @@ rows_more table tables =
     ap (flat_map (λ (t : Table). t.rows)) (reverse-append (table ∷ []) tables)
     ∙ sym (flat_map_more (λ (t : Table). t.rows) [] (reverse tables) table)
 
-pub of_moved : (cuts : List ℕ) (to : ℕ) (key : List ℕ) (rows : List Kept) → of_key key (map (moved cuts to) rows) ≡ map (moved cuts to) (of_key key rows)
+pub of_moved : (cuts : List ℕ) (to : ℕ) (key : List ℕ) (rows : List Kept)
+    → of_key key (map (moved cuts to) rows) ≡ map (moved cuts to) (of_key key rows)
 of_moved cuts to key [] = refl
 of_moved cuts to key (r ∷ rows) = at (same_key key r.row.key) (of_moved cuts to key rows)
   where
@@ -40,13 +41,16 @@ of_moved cuts to key (r ∷ rows) = at (same_key key r.row.key) (of_moved cuts t
 abbrev pub gathered_of : List ℕ → ℕ → List ℕ → List Table → List Kept
 gathered_of cuts to key tables = map (moved cuts to) (of_key key (newest_rows tables))
 
-pub gathered_more : (cuts : List ℕ) (to : ℕ) (key : List ℕ) (table : Table) (tables : List Table) → gathered_of cuts to key (table ∷ tables) ≡ gathered_of cuts to key tables ++ map (moved cuts to) (of_key key table.rows)
+pub gathered_more : (cuts : List ℕ) (to : ℕ) (key : List ℕ) (table : Table) (tables : List Table)
+    → gathered_of cuts to key (table ∷ tables) ≡ gathered_of cuts to key tables ++ map (moved cuts to) (of_key key table.rows)
 gathered_more cuts to key table tables =
     ap (λ (l : List Kept). map (moved cuts to) (of_key key l)) (rows_more table tables)
     ∙ ap (map (moved cuts to)) (filter-append (λ (r : Kept). same_key key r.row.key) (newest_rows tables) table.rows)
     ∙ map-append (moved cuts to) (of_key key (newest_rows tables)) (of_key key table.rows)
 
-pub merged_rows : (tables : List Table) (to : ℕ) (bottom : Bottom) (sorted : List Kept) → InOrder (map (moved bottom.cuts to) (newest_rows tables)) sorted → IsMergeOf tables to bottom (thinned bottom.last (dedup same_place sorted))
+pub merged_rows : (tables : List Table) (to : ℕ) (bottom : Bottom) (sorted : List Kept)
+    → InOrder (map (moved bottom.cuts to) (newest_rows tables)) sorted
+    → IsMergeOf tables to bottom (thinned bottom.last (dedup same_place sorted))
 merged_rows tables to bottom sorted order = record {
   rises = left_rises bottom.last sorted order.rises;
   newest = λ key.
@@ -55,21 +59,24 @@ merged_rows tables to bottom sorted order = record {
       ∙ ap (stays bottom.last) (sym (dedup_firsts (of_key key (map (moved bottom.cuts to) (newest_rows tables)))));
 }
 
-pub merged_key : (tables : List Table) (to : ℕ) (bottom : Bottom) (rows : List Kept) → IsMergeOf tables to bottom rows → (key : List ℕ) → of_key key rows ≡ stays bottom.last (firsts None (gathered_of bottom.cuts to key tables))
+pub merged_key : (tables : List Table) (to : ℕ) (bottom : Bottom) (rows : List Kept) → IsMergeOf tables to bottom rows
+    → (key : List ℕ) → of_key key rows ≡ stays bottom.last (firsts None (gathered_of bottom.cuts to key tables))
 merged_key tables to bottom rows merged key =
     merged.newest key
     ∙ ap (stays bottom.last) (dedup_firsts (of_key key (map (moved bottom.cuts to) (newest_rows tables))) ∙ ap (firsts None) (of_moved bottom.cuts to key (newest_rows tables)))
 
 -- ---- the marks of joined ranges
 
-marks_append : (ends key : List ℕ) (xs ys : List Numbered) → marks ends key (xs ++ ys) ≡ marks ends key xs ++ marks ends key ys
+marks_append : (ends key : List ℕ) (xs ys : List Numbered)
+    → marks ends key (xs ++ ys) ≡ marks ends key xs ++ marks ends key ys
 marks_append ends key xs ys = ap (map (mark ends)) (filter-append (has_key key) xs ys) ∙ map-append (mark ends) (filter (has_key key) xs) (filter (has_key key) ys)
 
 -- the writes of a range of a key, the newest first, under the ends of a range around it
 abbrev pub marked : List Write → ℕ → List ℕ → List ℕ → ℕ → ℕ → List Kept
 marked journal family ends key from to = marks ends key (reverse (numbered_after from (range_of journal family from to)))
 
-marked_parts : (journal : List Write) (family : ℕ) (ends key : List ℕ) (from mid to : ℕ) → from ≤ mid → mid ≤ to → marked journal family ends key from to ≡ marked journal family ends key mid to ++ marked journal family ends key from mid
+marked_parts : (journal : List Write) (family : ℕ) (ends key : List ℕ) (from mid to : ℕ) → from ≤ mid → mid ≤ to
+    → marked journal family ends key from to ≡ marked journal family ends key mid to ++ marked journal family ends key from mid
 marked_parts journal family ends key from mid to p q =
     let old = numbered_after from (range_of journal family from mid) in
     let new = numbered_after mid (range_of journal family mid to) in
@@ -122,7 +129,8 @@ module _ (from to : ℕ) (cuts : List ℕ) (are : CutsFrom from cuts to) where
         let rises = range_end_rises from to cuts are n e some old.1 (omega (arith, le)) in
         among_is cuts to e (omega (arith, le)) ∙ (let same : end_at ends e ≡ end_at ends n = omega (arith, least, rises) in same)
 
-    moved_marks : (most : ℕ) (writes : List Numbered) → most ≤ high → NumbersFall low most writes → map (moved cuts to) (map (mark (ends_of own high)) writes) ≡ map (mark ends) writes
+    moved_marks : (most : ℕ) (writes : List Numbered) → most ≤ high → NumbersFall low most writes
+        → map (moved cuts to) (map (mark (ends_of own high)) writes) ≡ map (mark ends) writes
     moved_marks most [] le fall = refl
     moved_marks most (n ∷ writes) le fall =
         let within : n.number ≤ high = omega (arith, fall.0) in
@@ -130,17 +138,20 @@ module _ (from to : ℕ) (cuts : List ℕ) (are : CutsFrom from cuts to) where
 
   -- ---- tables above the last
 
-  up_to : (journal : List Write) (family low : ℕ) (tables : List Table) → AreFlats journal family tables → Joined low tables to → low ≤ to
+  up_to : (journal : List Write) (family low : ℕ) (tables : List Table) → AreFlats journal family tables
+      → Joined low tables to → low ≤ to
   up_to journal family low [] flats joined = omega (arith, joined)
   up_to journal family low (table ∷ tables) flats joined = omega (arith, joined.0, flats.0.range, up_to journal family table.to tables flats.1 joined.1)
 
   module _ (journal : List Write) (family : ℕ) (key : List ℕ) where
-    own_rows : (table : Table) → IsFlatTable journal family table → of_key key table.rows ≡ stays table.bottom.last (firsts None (marked journal family (ends_of table.bottom.cuts table.to) key table.from table.to))
+    own_rows : (table : Table) → IsFlatTable journal family table
+        → of_key key table.rows ≡ stays table.bottom.last (firsts None (marked journal family (ends_of table.bottom.cuts table.to) key table.from table.to))
     own_rows table flat =
         flat.flat.newest key
         ∙ ap (stays table.bottom.last) (newest_firsts table.from table.to table.bottom.cuts flat.cuts.ascend (range_of journal family table.from table.to) (range_fit journal family table.from table.to flat.range) key)
 
-    own_same : (table : Table) → IsFlatTable journal family table → Every (IsClearIn table.from table.to table.bottom.cuts) cuts → from ≤ table.from → table.to ≤ to
+    own_same : (table : Table) → IsFlatTable journal family table
+        → Every (IsClearIn table.from table.to table.bottom.cuts) cuts → from ≤ table.from → table.to ≤ to
         → SameFirsts (map (moved cuts to) (firsts None (marked journal family (ends_of table.bottom.cuts table.to) key table.from table.to))) (marked journal family ends key table.from table.to)
     own_same table flat clear lower upper =
         let writes = range_of journal family table.from table.to in
@@ -152,7 +163,9 @@ module _ (from to : ℕ) (cuts : List ℕ) (are : CutsFrom from cuts to) where
         (same_refl (map (moved cuts to) marks_are) (marked journal family ends key table.from table.to)
         (moved_marks table.from table.to table.bottom.cuts flat.cuts.ascend clear lower upper table.to (filter (has_key key) turned) (omega arith) falls))
 
-    above_same : (low : ℕ) (tables : List Table) → from ≤ low → NoneLast tables → AreClear cuts tables → AreFlats journal family tables → Joined low tables to → SameFirsts (gathered_of cuts to key tables) (marked journal family ends key low to)
+    above_same : (low : ℕ) (tables : List Table) → from ≤ low → NoneLast tables → EachClear cuts tables
+        → AreFlats journal family tables → Joined low tables to
+        → SameFirsts (gathered_of cuts to key tables) (marked journal family ends key low to)
     above_same low [] lower plain clear flats joined =
         same_refl [] (marked journal family ends key low to) (sym (ap (λ (n : ℕ). marked journal family ends key low n) (sym joined) ∙ marked_none journal family ends key low))
     above_same low (table ∷ tables) lower plain clear flats joined =
@@ -177,7 +190,8 @@ module _ (from to : ℕ) (cuts : List ℕ) (are : CutsFrom from cuts to) where
     alone : (xs ys : List Kept) → SameFirsts xs ys → firsts None xs ≡ firsts None ys
     alone xs ys same = ap (firsts None) (sym (append-nil xs)) ∙ same None [] ∙ ap (firsts None) (append-nil ys)
 
-    whole : (last : Bool) (tables : List Table) → NoneLast (drop 1 tables) → (last ≡ false → NoneLast tables) → AreClear cuts tables → AreFlats journal family tables → Joined from tables to
+    whole : (last : Bool) (tables : List Table) → NoneLast (drop 1 tables) → (last ≡ false → NoneLast tables)
+        → EachClear cuts tables → AreFlats journal family tables → Joined from tables to
         → stays last (firsts None (gathered_of cuts to key tables)) ≡ stays last (firsts None (marked journal family ends key from to))
     whole last [] above plain clear flats joined =
         ap (stays last) (alone (gathered_of cuts to key []) (marked journal family ends key from to) (above_same from [] (omega arith) tt tt tt joined))
@@ -195,7 +209,9 @@ module _ (from to : ℕ) (cuts : List ℕ) (are : CutsFrom from cuts to) where
         (above_same table.to tables (omega (arith, begins, flats.0.range)) above clear.1 flats.1 joined.1)
         (own_same table flats.0 clear.0 begins upper)) ∙ ap (firsts None) (sym parts))
 
-pub merged_flat : (journal : List Write) (family from to : ℕ) (bottom : Bottom) (tables : List Table) (rows : List Kept) → AreCuts from to bottom.cuts → NoneLast (drop 1 tables) → (bottom.last ≡ false → NoneLast tables) → AreClear bottom.cuts tables → AreFlats journal family tables → Joined from tables to
+pub merged_flat : (journal : List Write) (family from to : ℕ) (bottom : Bottom) (tables : List Table) (rows : List Kept)
+    → AreCuts from to bottom.cuts → NoneLast (drop 1 tables) → (bottom.last ≡ false → NoneLast tables)
+    → EachClear bottom.cuts tables → AreFlats journal family tables → Joined from tables to
     → IsMergeOf tables to bottom rows → IsFlat journal family from to bottom rows
 merged_flat journal family from to bottom tables rows are above plain clear flats joined merged =
     let le : from ≤ to = up_to from to bottom.cuts are.ascend journal family from tables flats joined in
@@ -208,14 +224,16 @@ merged_flat journal family from to bottom tables rows are above plain clear flat
 
 -- ---- the ends of joined ranges
 
-last_is : (from to : ℕ) (table : Table) (tables : List Table) (d : Table) → Joined from tables to → table.to ≡ from → (get_or (table ∷ tables) (length (table ∷ tables) - 1) d).to ≡ to
+last_is : (from to : ℕ) (table : Table) (tables : List Table) (d : Table) → Joined from tables to → table.to ≡ from
+    → (get_or (table ∷ tables) (length (table ∷ tables) - 1) d).to ≡ to
 last_is from to table [] d joined e = e ∙ joined
 last_is from to table (next ∷ tables) d joined e =
     let less : length (table ∷ next ∷ tables) - 1 ≡ suc (length (next ∷ tables) - 1) = omega arith in
     ap (λ (n : ℕ). (get_or (table ∷ next ∷ tables) n d).to) less ∙ last_is next.to to next tables d joined.1 refl
 
 -- the first table begins where the joined range does, and the last ends there
-pub ends_are : (from to : ℕ) (tables : List Table) (a b : Table) → 1 ≤ length tables → Joined from tables to → (from ≡ (get_or tables 0 a).from) × (to ≡ (get_or tables (length tables - 1) b).to)
+pub ends_are : (from to : ℕ) (tables : List Table) (a b : Table) → 1 ≤ length tables → Joined from tables to
+    → (from ≡ (get_or tables 0 a).from) × (to ≡ (get_or tables (length tables - 1) b).to)
 ends_are from to [] a b le joined = absurd (omega (arith, le))
 ends_are from to (table ∷ tables) a b le joined = (sym joined.0, sym (last_is table.to to table tables b joined.1 refl))
 
@@ -227,7 +245,8 @@ joined_ends cuts tables a b le joined =
     subst (λ (p : ℕ × ℕ). Joined p.0 tables p.1 × AreCuts p.0 p.1 cuts) (λ i. (e.0 i, e.1 i)) (joined.2, joined.3)
 
 -- what the steps of a merge leave
-pub merged_as : (tables : List Table) (to : ℕ) (bottom : Bottom) (cuts : List ℕ) (gathered sorted rows : List Kept) → cuts ≡ bottom.cuts → gathered ≡ map (moved cuts to) (newest_rows tables) → InOrder gathered sorted
+pub merged_as : (tables : List Table) (to : ℕ) (bottom : Bottom) (cuts : List ℕ) (gathered sorted rows : List Kept)
+    → cuts ≡ bottom.cuts → gathered ≡ map (moved cuts to) (newest_rows tables) → InOrder gathered sorted
     → rows ≡ thinned bottom.last (dedup same_place sorted) → IsMergeOf tables to bottom rows
 merged_as tables to bottom cuts gathered sorted rows e is order left =
     subst (IsMergeOf tables to bottom) (sym left)

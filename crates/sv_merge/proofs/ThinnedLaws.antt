@@ -14,16 +14,20 @@ use Rattle.sv_merge.specs.Placing.{same_place, is_next, thinned}
 
 -- ---- the first of each end
 
-again : (p q : Kept) (rows : List Kept) → same_place q p ≡ true → dedup_from same_place p (q ∷ rows) ≡ dedup_from same_place p rows
+again : (p q : Kept) (rows : List Kept) → same_place q p ≡ true
+    → dedup_from same_place p (q ∷ rows) ≡ dedup_from same_place p rows
 again p q rows e = ap (λ (b : Bool). cond b (dedup_from same_place p rows) (p ∷ dedup_from same_place q rows)) e
 
-next : (p q : Kept) (rows : List Kept) → same_place q p ≡ false → dedup_from same_place p (q ∷ rows) ≡ p ∷ dedup_from same_place q rows
+next : (p q : Kept) (rows : List Kept) → same_place q p ≡ false
+    → dedup_from same_place p (q ∷ rows) ≡ p ∷ dedup_from same_place q rows
 next p q rows e = ap (λ (b : Bool). cond b (dedup_from same_place p rows) (p ∷ dedup_from same_place q rows)) e
 
-first_again : (p q : Kept) (rows : List Kept) → eqb q.end p.end ≡ true → firsts (Some p.end) (q ∷ rows) ≡ firsts (Some p.end) rows
+first_again : (p q : Kept) (rows : List Kept) → eqb q.end p.end ≡ true
+    → firsts (Some p.end) (q ∷ rows) ≡ firsts (Some p.end) rows
 first_again p q rows e = ap (λ (b : Bool). cond b (firsts (Some p.end) rows) (q ∷ firsts (Some q.end) rows)) e
 
-first_next : (p q : Kept) (rows : List Kept) → eqb q.end p.end ≡ false → firsts (Some p.end) (q ∷ rows) ≡ q ∷ firsts (Some q.end) rows
+first_next : (p q : Kept) (rows : List Kept) → eqb q.end p.end ≡ false
+    → firsts (Some p.end) (q ∷ rows) ≡ q ∷ firsts (Some q.end) rows
 first_next p q rows e = ap (λ (b : Bool). cond b (firsts (Some p.end) rows) (q ∷ firsts (Some q.end) rows)) e
 
 -- the rows of the key, and of them the first of each end
@@ -31,7 +35,8 @@ abbrev first_of : List ℕ → List Kept → List Kept
 first_of key rows = firsts None (of_key key rows)
 
 -- a row of the same place adds nothing
-skip_again : (key : List ℕ) (p q : Kept) (rows : List Kept) → same_place q p ≡ true → first_of key (p ∷ rows) ≡ first_of key (p ∷ q ∷ rows)
+skip_again : (key : List ℕ) (p q : Kept) (rows : List Kept) → same_place q p ≡ true
+    → first_of key (p ∷ rows) ≡ first_of key (p ∷ q ∷ rows)
 skip_again key p q rows e =
     let parts = and_parts (eqb q.end p.end) (same_key q.row.key p.row.key) e in
     elim (cases_Bool (same_key key p.row.key)) [
@@ -46,7 +51,9 @@ skip_again key p q rows e =
     ]
 
 -- a row of another place begins anew
-begin_next : (key : List ℕ) (p q : Kept) (rows : List Kept) → same_place q p ≡ false → is_below q.row.key p.row.key ≡ false → RisesFrom key_of_kept q rows → same_key key p.row.key ≡ true → firsts None (of_key key (q ∷ rows)) ≡ firsts (Some p.end) (of_key key (q ∷ rows))
+begin_next : (key : List ℕ) (p q : Kept) (rows : List Kept) → same_place q p ≡ false
+    → is_below q.row.key p.row.key ≡ false → RisesFrom key_of_kept q rows → same_key key p.row.key ≡ true
+    → firsts None (of_key key (q ∷ rows)) ≡ firsts (Some p.end) (of_key key (q ∷ rows))
 begin_next key p q rows e low up same = elim (cases_Bool (same_key key q.row.key)) [
   | inl too ↦
       let level : same_key q.row.key p.row.key ≡ true = same_yes q.row.key p.row.key (sym (same_eq key q.row.key too) ∙ same_eq key p.row.key same) in
@@ -58,7 +65,9 @@ begin_next key p q rows e low up same = elim (cases_Bool (same_key key q.row.key
       ap (firsts None) none ∙ ap (firsts (Some p.end)) (sym none)
 ]
 
-step_next : (key : List ℕ) (p q : Kept) (rows left : List Kept) → same_place q p ≡ false → is_below q.row.key p.row.key ≡ false → RisesFrom key_of_kept q rows → of_key key left ≡ first_of key (q ∷ rows) → of_key key (p ∷ left) ≡ first_of key (p ∷ q ∷ rows)
+step_next : (key : List ℕ) (p q : Kept) (rows left : List Kept) → same_place q p ≡ false
+    → is_below q.row.key p.row.key ≡ false → RisesFrom key_of_kept q rows → of_key key left ≡ first_of key (q ∷ rows)
+    → of_key key (p ∷ left) ≡ first_of key (p ∷ q ∷ rows)
 step_next key p q rows left e low up ih = elim (cases_Bool (same_key key p.row.key)) [
   | inl same ↦
       key_yes key p left same
@@ -74,7 +83,8 @@ one_first key p = at (same_key key p.row.key)
     at true = refl
     at false = refl
 
-dedup_key_from : (key : List ℕ) (p : Kept) (rows : List Kept) → RisesFrom key_of_kept p rows → of_key key (dedup_from same_place p rows) ≡ first_of key (p ∷ rows)
+dedup_key_from : (key : List ℕ) (p : Kept) (rows : List Kept) → RisesFrom key_of_kept p rows
+    → of_key key (dedup_from same_place p rows) ≡ first_of key (p ∷ rows)
 dedup_key_from key p [] up = one_first key p
 dedup_key_from key p (q ∷ rows) up = elim (cases_Bool (same_place q p)) [
   | inl e ↦
@@ -84,11 +94,13 @@ dedup_key_from key p (q ∷ rows) up = elim (cases_Bool (same_place q p)) [
       ap (of_key key) (next p q rows e) ∙ step_next key p q rows (dedup_from same_place q rows) e up.0 up.1 (dedup_key_from key q rows up.1)
 ]
 
-pub dedup_key : (key : List ℕ) (rows : List Kept) → RisesBy key_of_kept rows → of_key key (dedup same_place rows) ≡ firsts None (of_key key rows)
+pub dedup_key : (key : List ℕ) (rows : List Kept) → RisesBy key_of_kept rows
+    → of_key key (dedup same_place rows) ≡ firsts None (of_key key rows)
 dedup_key key [] up = refl
 dedup_key key (p ∷ rows) up = dedup_key_from key p rows up
 
-dedup_rises_from : (p q : Kept) (rows : List Kept) → is_below q.row.key p.row.key ≡ false → RisesFrom key_of_kept q rows → RisesFrom key_of_kept p (dedup_from same_place q rows)
+dedup_rises_from : (p q : Kept) (rows : List Kept) → is_below q.row.key p.row.key ≡ false
+    → RisesFrom key_of_kept q rows → RisesFrom key_of_kept p (dedup_from same_place q rows)
 dedup_rises_from p q [] low up = (low, tt)
 dedup_rises_from p q (r ∷ rows) low up = elim (cases_Bool (same_place r q)) [
   | inl e ↦
@@ -110,7 +122,8 @@ from : (p : Kept) (rows : List Kept) → dedup_from (λ r s. eqb r.end s.end) p 
 from p [] = refl
 from p (q ∷ rows) = at (eqb q.end p.end) (from p rows) (from q rows)
   where
-    at : (b : Bool) → dedup_from (λ r s. eqb r.end s.end) p rows ≡ p ∷ firsts (Some p.end) rows → dedup_from (λ r s. eqb r.end s.end) q rows ≡ q ∷ firsts (Some q.end) rows
+    at : (b : Bool) → dedup_from (λ r s. eqb r.end s.end) p rows ≡ p ∷ firsts (Some p.end) rows
+        → dedup_from (λ r s. eqb r.end s.end) q rows ≡ q ∷ firsts (Some q.end) rows
         → cond b (dedup_from (λ r s. eqb r.end s.end) p rows) (p ∷ dedup_from (λ r s. eqb r.end s.end) q rows) ≡ p ∷ cond b (firsts (Some p.end) rows) (q ∷ firsts (Some q.end) rows)
     at true h i = h
     at false h i = ap (λ (l : List Kept). p ∷ l) i
@@ -125,11 +138,13 @@ pub thinned_all : (rows : List Kept) → thinned false rows ≡ rows
 thinned_all [] = refl
 thinned_all (r ∷ rows) = ap (λ (l : List Kept). r ∷ l) (thinned_all rows)
 
-thin_rises_from : (last : Bool) (p : Kept) (rows : List Kept) → RisesFrom key_of_kept p rows → RisesFrom key_of_kept p (thinned last rows)
+thin_rises_from : (last : Bool) (p : Kept) (rows : List Kept) → RisesFrom key_of_kept p rows
+    → RisesFrom key_of_kept p (thinned last rows)
 thin_rises_from last p [] up = tt
 thin_rises_from last p (r ∷ rows) up = at (last && is_delete r.row.op && not (is_next r.row.key (thinned last rows))) (thin_rises_from last r rows up.1)
   where
-    at : (b : Bool) → RisesFrom key_of_kept r (thinned last rows) → RisesFrom key_of_kept p (cond b (thinned last rows) (r ∷ thinned last rows))
+    at : (b : Bool) → RisesFrom key_of_kept r (thinned last rows)
+        → RisesFrom key_of_kept p (cond b (thinned last rows) (r ∷ thinned last rows))
     at true h = rises_lower p r (thinned last rows) up.0 h
     at false h = (up.0, h)
 
@@ -137,12 +152,14 @@ pub thin_rises : (last : Bool) (rows : List Kept) → RisesBy key_of_kept rows �
 thin_rises last [] up = tt
 thin_rises last (r ∷ rows) up = at (last && is_delete r.row.op && not (is_next r.row.key (thinned last rows))) (thin_rises_from last r rows up)
   where
-    at : (b : Bool) → RisesFrom key_of_kept r (thinned last rows) → RisesBy key_of_kept (cond b (thinned last rows) (r ∷ thinned last rows))
+    at : (b : Bool) → RisesFrom key_of_kept r (thinned last rows)
+        → RisesBy key_of_kept (cond b (thinned last rows) (r ∷ thinned last rows))
     at true h = rises_rest r (thinned last rows) h
     at false h = h
 
 -- the next row is of the key exactly where the key has a row left
-next_is : (key : List ℕ) (r : Kept) (left : List Kept) → key ≡ r.row.key → RisesFrom key_of_kept r left → not (is_next r.row.key left) ≡ is_empty (of_key key left)
+next_is : (key : List ℕ) (r : Kept) (left : List Kept) → key ≡ r.row.key → RisesFrom key_of_kept r left
+    → not (is_next r.row.key left) ≡ is_empty (of_key key left)
 next_is key r [] e up = refl
 next_is key r (q ∷ left) e up = elim (cases_Bool (same_key q.row.key r.row.key)) [
   | inl same ↦
@@ -154,7 +171,9 @@ next_is key r (q ∷ left) e up = elim (cases_Bool (same_key q.row.key r.row.key
       ap not other ∙ sym (ap is_empty (key_no key q left not_own ∙ gone key q left higher up.1))
 ]
 
-thin_own : (key : List ℕ) (r : Kept) (left : List Kept) (b : Bool) → same_key key r.row.key ≡ true → b ≡ (is_delete r.row.op && is_empty (of_key key left)) → of_key key (cond b left (r ∷ left)) ≡ cond (is_delete r.row.op && is_empty (of_key key left)) [] (r ∷ of_key key left)
+thin_own : (key : List ℕ) (r : Kept) (left : List Kept) (b : Bool) → same_key key r.row.key ≡ true
+    → b ≡ (is_delete r.row.op && is_empty (of_key key left))
+    → of_key key (cond b left (r ∷ left)) ≡ cond (is_delete r.row.op && is_empty (of_key key left)) [] (r ∷ of_key key left)
 thin_own key r left true same e =
     let none : of_key key left ≡ [] = nothing (of_key key left) (and_parts (is_delete r.row.op) (is_empty (of_key key left)) (sym e)).1 in
     none ∙ ap (λ (b : Bool). cond b [] (r ∷ of_key key left)) e
@@ -164,11 +183,13 @@ thin_own key r left true same e =
     nothing (x ∷ rows) h = absurd (cc h)
 thin_own key r left false same e = key_yes key r left same ∙ ap (λ (b : Bool). cond b [] (r ∷ of_key key left)) e
 
-thin_other : (key : List ℕ) (r : Kept) (left : List Kept) (b : Bool) → same_key key r.row.key ≡ false → of_key key (cond b left (r ∷ left)) ≡ of_key key left
+thin_other : (key : List ℕ) (r : Kept) (left : List Kept) (b : Bool) → same_key key r.row.key ≡ false
+    → of_key key (cond b left (r ∷ left)) ≡ of_key key left
 thin_other key r left true other = refl
 thin_other key r left false other = key_no key r left other
 
-pub thin_key : (key : List ℕ) (rows : List Kept) → RisesBy key_of_kept rows → of_key key (thinned true rows) ≡ without_last_deletes (of_key key rows)
+pub thin_key : (key : List ℕ) (rows : List Kept) → RisesBy key_of_kept rows
+    → of_key key (thinned true rows) ≡ without_last_deletes (of_key key rows)
 thin_key key [] up = refl
 thin_key key (r ∷ rows) up =
     let left = thinned true rows in
@@ -185,9 +206,11 @@ thin_key key (r ∷ rows) up =
 
 -- ---- both
 
-pub left_rises : (last : Bool) (rows : List Kept) → RisesBy key_of_kept rows → RisesBy key_of_kept (thinned last (dedup same_place rows))
+pub left_rises : (last : Bool) (rows : List Kept) → RisesBy key_of_kept rows
+    → RisesBy key_of_kept (thinned last (dedup same_place rows))
 left_rises last rows up = thin_rises last (dedup same_place rows) (dedup_rises rows up)
 
-pub left_key : (last : Bool) (key : List ℕ) (rows : List Kept) → RisesBy key_of_kept rows → of_key key (thinned last (dedup same_place rows)) ≡ stays last (firsts None (of_key key rows))
+pub left_key : (last : Bool) (key : List ℕ) (rows : List Kept) → RisesBy key_of_kept rows
+    → of_key key (thinned last (dedup same_place rows)) ≡ stays last (firsts None (of_key key rows))
 left_key true key rows up = thin_key key (dedup same_place rows) (dedup_rises rows up) ∙ ap without_last_deletes (dedup_key key rows up)
 left_key false key rows up = ap (of_key key) (thinned_all (dedup same_place rows)) ∙ dedup_key key rows up

@@ -111,7 +111,9 @@ abbrev pub Stand : List Numbered → Type 0
 Stand [] = Unit {0}
 Stand (x ∷ rows) = StandFrom x rows
 
-stand_from : (x : Numbered) (rows : List Numbered) → ((k : ℕ) (d : Numbered) → suc k < length (x ∷ rows) → is_ahead (get_or (x ∷ rows) (suc k) d) (get_or (x ∷ rows) k d) ≡ false) → StandFrom x rows
+stand_from : (x : Numbered) (rows : List Numbered)
+    → ((k : ℕ) (d : Numbered) → suc k < length (x ∷ rows) → is_ahead (get_or (x ∷ rows) (suc k) d) (get_or (x ∷ rows) k d) ≡ false)
+    → StandFrom x rows
 stand_from x [] h = tt
 stand_from x (y ∷ rows) h = (sym (ahead_before y x) ∙ h 0 x (omega arith), stand_from y rows (λ k d lt. h (suc k) d (omega arith)))
 
@@ -127,13 +129,16 @@ pub stand_rises : (rows : List Numbered) → Stand rows → RisesBy key_of_numbe
 stand_rises [] up = tt
 stand_rises (x ∷ rows) up = stand_rises_from x rows up
 
-no_key : (key : List ℕ) (n : Numbered) (rows : List Numbered) → has_key key n ≡ false → filter (has_key key) (n ∷ rows) ≡ filter (has_key key) rows
+no_key : (key : List ℕ) (n : Numbered) (rows : List Numbered) → has_key key n ≡ false
+    → filter (has_key key) (n ∷ rows) ≡ filter (has_key key) rows
 no_key key n rows e = ap (λ (b : Bool). cond b (n ∷ filter (has_key key) rows) (filter (has_key key) rows)) e
 
-own_key : (key : List ℕ) (n : Numbered) (rows : List Numbered) → has_key key n ≡ true → filter (has_key key) (n ∷ rows) ≡ n ∷ filter (has_key key) rows
+own_key : (key : List ℕ) (n : Numbered) (rows : List Numbered) → has_key key n ≡ true
+    → filter (has_key key) (n ∷ rows) ≡ n ∷ filter (has_key key) rows
 own_key key n rows e = ap (λ (b : Bool). cond b (n ∷ filter (has_key key) rows) (filter (has_key key) rows)) e
 
-none_behind : (key : List ℕ) (x : Numbered) (rows : List Numbered) → is_below key x.row.key ≡ true → StandFrom x rows → filter (has_key key) rows ≡ []
+none_behind : (key : List ℕ) (x : Numbered) (rows : List Numbered) → is_below key x.row.key ≡ true → StandFrom x rows
+    → filter (has_key key) rows ≡ []
 none_behind key x [] high up = refl
 none_behind key x (y ∷ rows) high up =
     let higher : is_below key y.row.key ≡ true = elim (cases_Bool (same_key x.row.key y.row.key)) [
@@ -143,7 +148,8 @@ none_behind key x (y ∷ rows) high up =
     no_key key y rows (same_no key y.row.key (below_other key y.row.key higher)) ∙ none_behind key y rows higher up.1
 
 -- in one key the numbers do not rise
-key_falls : (low : ℕ) (key : List ℕ) (x : Numbered) (rows : List Numbered) → has_key key x ≡ true → StandFrom x rows → AllByRecursion (λ n. low < n.number) rows → NumbersFall low x.number (filter (has_key key) rows)
+key_falls : (low : ℕ) (key : List ℕ) (x : Numbered) (rows : List Numbered) → has_key key x ≡ true → StandFrom x rows
+    → AllByRecursion (λ n. low < n.number) rows → NumbersFall low x.number (filter (has_key key) rows)
 key_falls low key x [] own up all = tt
 key_falls low key x (y ∷ rows) own up all = elim (cases_Bool (has_key key y)) [
   | inl same ↦
@@ -158,14 +164,17 @@ stand_rest : (x : Numbered) (rows : List Numbered) → StandFrom x rows → Stan
 stand_rest x [] up = tt
 stand_rest x (y ∷ rows) up = up.1
 
-all_falls : (low high : ℕ) (key : List ℕ) (rows : List Numbered) → Stand rows → AllByRecursion (λ n. (low < n.number) × (n.number ≤ high)) rows → NumbersFall low high (filter (has_key key) rows)
+all_falls : (low high : ℕ) (key : List ℕ) (rows : List Numbered) → Stand rows
+    → AllByRecursion (λ n. (low < n.number) × (n.number ≤ high)) rows
+    → NumbersFall low high (filter (has_key key) rows)
 all_falls low high key [] up all = tt
 all_falls low high key (x ∷ rows) up all = elim (cases_Bool (has_key key x)) [
   | inl same ↦ subst (NumbersFall low high) (sym (own_key key x rows same)) (all.0.1, all.0.0, key_falls low key x rows same up (lows rows all.1))
   | inr other ↦ subst (NumbersFall low high) (sym (no_key key x rows other)) (all_falls low high key rows (stand_rest x rows up) all.1)
 ]
   where
-    lows : (rows : List Numbered) → AllByRecursion (λ n. (low < n.number) × (n.number ≤ high)) rows → AllByRecursion (λ n. low < n.number) rows
+    lows : (rows : List Numbered) → AllByRecursion (λ n. (low < n.number) × (n.number ≤ high)) rows
+        → AllByRecursion (λ n. low < n.number) rows
     lows [] all = tt
     lows (y ∷ rows) all = (all.0.0, lows rows all.1)
 
@@ -189,7 +198,8 @@ often_low low high m (n ∷ rows) fall lt =
     let apart = other_number m n (λ e. omega (arith, e, fall.0)) in
     omega (arith, sum_by-cons (has_number m) n rows, apart, often_low low n.number m rows fall.2 (omega (arith, fall.0)))
 
-not_less : (low high : ℕ) (x y : Numbered) (xs ys : List Numbered) → NumbersFall low high (y ∷ ys) → often x.number (x ∷ xs) ≡ often x.number (y ∷ ys) → x.number ≤ y.number
+not_less : (low high : ℕ) (x y : Numbered) (xs ys : List Numbered) → NumbersFall low high (y ∷ ys)
+    → often x.number (x ∷ xs) ≡ often x.number (y ∷ ys) → x.number ≤ y.number
 not_less low high x y xs ys fall same =
     let some : often x.number (x ∷ xs) ≡ 1 + often x.number xs = sum_by-cons (has_number x.number) x xs ∙ ap (λ (k : ℕ). k + often x.number xs) (own_number x) in
     elim (cases_Bool (nat_lt y.number x.number)) [
@@ -198,7 +208,8 @@ not_less low high x y xs ys fall same =
     ]
 
 module _ (P : Numbered → Type 0) (one : (a b : Numbered) → P a → P b → a.number ≡ b.number → a ≡ b) (low : ℕ) where
-  pub same_falling : (high most : ℕ) (xs ys : List Numbered) → NumbersFall low high xs → NumbersFall low most ys → AllByRecursion P xs → AllByRecursion P ys → ((m : ℕ) → often m xs ≡ often m ys) → xs ≡ ys
+  pub same_falling : (high most : ℕ) (xs ys : List Numbered) → NumbersFall low high xs → NumbersFall low most ys
+      → AllByRecursion P xs → AllByRecursion P ys → ((m : ℕ) → often m xs ≡ often m ys) → xs ≡ ys
   same_falling high most [] [] fall falls all alls same = refl
   same_falling high most [] (y ∷ ys) fall falls all alls same = absurd (omega (arith, same y.number, sum_by-cons (has_number y.number) y ys, own_number y))
   same_falling high most (x ∷ xs) [] fall falls all alls same = absurd (omega (arith, same x.number, sum_by-cons (has_number x.number) x xs, own_number x))
@@ -219,12 +230,15 @@ IsNumbered from all n = (from < n.number) × (n.number ≤ from + length all) ×
 some_rows : (x y : Row) → Some x ≡ Some y → x ≡ y
 some_rows x y e = cc
 
-one_numbered : (from : ℕ) (all : List Row) (a b : Numbered) → IsNumbered from all a → IsNumbered from all b → a.number ≡ b.number → a ≡ b
+one_numbered : (from : ℕ) (all : List Row) (a b : Numbered) → IsNumbered from all a → IsNumbered from all b
+    → a.number ≡ b.number → a ≡ b
 one_numbered from all a b p q e =
     let row : a.row ≡ b.row = some_rows a.row b.row (sym p.2 ∙ ap (λ (k : ℕ). slice_get all (k - suc from)) e ∙ q.2) in
     (λ i. record { number = e i; row = row i })
 
-numbered_from : (from : ℕ) (all : List Row) (before k : ℕ) (rest : List Row) → before ≡ from + k → k + length rest ≡ length all → ((i : ℕ) → slice_get rest i ≡ slice_get all (k + i)) → AllByRecursion (IsNumbered from all) (numbered_after before rest)
+numbered_from : (from : ℕ) (all : List Row) (before k : ℕ) (rest : List Row) → before ≡ from + k
+    → k + length rest ≡ length all → ((i : ℕ) → slice_get rest i ≡ slice_get all (k + i))
+    → AllByRecursion (IsNumbered from all) (numbered_after before rest)
 numbered_from from all before k [] is len at = tt
 numbered_from from all before k (w ∷ rest) is len at =
     let here : suc before - suc from ≡ k + 0 = omega (arith, is) in (
@@ -239,15 +253,18 @@ are_numbered from all = numbered_from from all from 0 all (omega arith) (omega a
 abbrev has_both : List ℕ → ℕ → Numbered → ℕ
 has_both key m n = cond (has_key key n) (has_number m n) 0
 
-often_key : (key : List ℕ) (m : ℕ) (rows : List Numbered) → often m (filter (has_key key) rows) ≡ sum_by (has_both key m) rows
+often_key : (key : List ℕ) (m : ℕ) (rows : List Numbered)
+    → often m (filter (has_key key) rows) ≡ sum_by (has_both key m) rows
 often_key key m [] = refl
 often_key key m (n ∷ rows) = at (has_key key n) (often_key key m rows) ∙ sym (sum_by-cons (has_both key m) n rows)
   where
-    at : (b : Bool) → often m (filter (has_key key) rows) ≡ sum_by (has_both key m) rows → often m (cond b (n ∷ filter (has_key key) rows) (filter (has_key key) rows)) ≡ cond b (has_number m n) 0 + sum_by (has_both key m) rows
+    at : (b : Bool) → often m (filter (has_key key) rows) ≡ sum_by (has_both key m) rows
+        → often m (cond b (n ∷ filter (has_key key) rows) (filter (has_key key) rows)) ≡ cond b (has_number m n) 0 + sum_by (has_both key m) rows
     at true h = sum_by-cons (has_number m) n (filter (has_key key) rows) ∙ ap (λ (k : ℕ). has_number m n + k) h
     at false h = omega (arith, h)
 
-all_filter : (P : Numbered → Type 0) (p : Numbered → Bool) (rows : List Numbered) → AllByRecursion P rows → AllByRecursion P (filter p rows)
+all_filter : (P : Numbered → Type 0) (p : Numbered → Bool) (rows : List Numbered) → AllByRecursion P rows
+    → AllByRecursion P (filter p rows)
 all_filter P p [] all = tt
 all_filter P p (n ∷ rows) all = at (p n) (all_filter P p rows all.1)
   where
@@ -256,7 +273,9 @@ all_filter P p (n ∷ rows) all = at (p n) (all_filter P p rows all.1)
     at false h = h
 
 -- The rows of a key, where all stand by key and in one key the newest first, are its writes, the newest first.
-pub newest_rows : (from : ℕ) (writes : List Row) (rows : List Numbered) → IsPermutation (numbered_after from writes) rows → Stand rows → (key : List ℕ) → filter (has_key key) rows ≡ filter (has_key key) (reverse (numbered_after from writes))
+pub newest_rows : (from : ℕ) (writes : List Row) (rows : List Numbered)
+    → IsPermutation (numbered_after from writes) rows → Stand rows → (key : List ℕ)
+    → filter (has_key key) rows ≡ filter (has_key key) (reverse (numbered_after from writes))
 newest_rows from writes rows permuted up key =
     let numbered = numbered_after from writes in
     let P = IsNumbered from writes in
@@ -270,6 +289,7 @@ newest_rows from writes rows permuted up key =
     (all_filter P (has_key key) rows all) (all_filter P (has_key key) (reverse numbered) alls)
     (λ m. often_key key m rows ∙ sum_by-IsPermutation (has_both key m) numbered rows permuted ∙ sym (sum_by-IsPermutation (has_both key m) numbered (reverse numbered) (IsPermutation-reverse numbered)) ∙ sym (often_key key m (reverse numbered)))
   where
-    bounds : (rows : List Numbered) → AllByRecursion (IsNumbered from writes) rows → AllByRecursion (λ n. (from < n.number) × (n.number ≤ from + length writes)) rows
+    bounds : (rows : List Numbered) → AllByRecursion (IsNumbered from writes) rows
+        → AllByRecursion (λ n. (from < n.number) × (n.number ≤ from + length writes)) rows
     bounds [] all = tt
     bounds (n ∷ rows) all = ((all.0.0, all.0.1), bounds rows all.1)

@@ -15,12 +15,13 @@ use Rattle.sv_model.proofs.FlatFirsts.{firsts, mark, marks, has_key, NumbersFall
 use Rattle.sv_model.proofs.FlatLaws.{flat_of_keys, length_numbered}
 use Rattle.sv_merge.specs.Building.{is_ahead, IsNewestFirst, placed}
 use Rattle.sv_merge.specs.Placing.{same_place, thinned}
-use Rattle.sv_merge.proofs.Newest.{Stand, stand, stand_rises, newest_rows}
-use Rattle.sv_merge.proofs.Stays.{left_rises, left_key}
+use Rattle.sv_merge.proofs.NewestFirst.{Stand, stand, stand_rises, newest_rows}
+use Rattle.sv_merge.proofs.ThinnedLaws.{left_rises, left_key}
 
 -- ---- rows that are referred to
 
-first_ref : (x : Bor Numbered) (refs : List (Bor Numbered)) → IsSortedBy (λ x y. is_ahead x.now y.now) (x ∷ refs) → IsSortedBy is_ahead (map (λ n. n.now) (x ∷ refs))
+first_ref : (x : Bor Numbered) (refs : List (Bor Numbered)) → IsSortedBy (λ x y. is_ahead x.now y.now) (x ∷ refs)
+    → IsSortedBy is_ahead (map (λ n. n.now) (x ∷ refs))
 first_ref x refs up k d low lt =
     let all = x ∷ refs in
     let now : Bor Numbered → Numbered = λ n. n.now in
@@ -29,11 +30,13 @@ first_ref x refs up k d low lt =
     (λ i. is_ahead (get_or-map now all (k + 1) e d (omega (arith, len)) i) (get_or-map now all k e d (omega (arith, len)) i))
     ∙ up k e low (omega (arith, len))
 
-sorted_refs : (refs : List (Bor Numbered)) → IsSortedBy (λ x y. is_ahead x.now y.now) refs → IsSortedBy is_ahead (map (λ n. n.now) refs)
+sorted_refs : (refs : List (Bor Numbered)) → IsSortedBy (λ x y. is_ahead x.now y.now) refs
+    → IsSortedBy is_ahead (map (λ n. n.now) refs)
 sorted_refs [] up = λ k d low lt. absurd (omega arith)
 sorted_refs (x ∷ refs) up = first_ref x refs up
 
-pub newest_first : (rows : List Numbered) (old new : List (Bor Numbered)) → map (λ n. n.now) old ≡ rows → IsPermutation old new → IsSortedBy (λ x y. is_ahead x.now y.now) new → IsNewestFirst rows (map (λ n. n.now) new)
+pub newest_first : (rows : List Numbered) (old new : List (Bor Numbered)) → map (λ n. n.now) old ≡ rows
+    → IsPermutation old new → IsSortedBy (λ x y. is_ahead x.now y.now) new → IsNewestFirst rows (map (λ n. n.now) new)
 newest_first rows old new is permuted up = record {
   same = subst (λ (l : List Numbered). IsPermutation l (map (λ (n : Bor Numbered). n.now) new)) is (IsPermutation-map (λ (n : Bor Numbered). n.now) old new permuted);
   sorted = sorted_refs new up;
@@ -41,7 +44,8 @@ newest_first rows old new is permuted up = record {
 
 -- ---- rows under their ends
 
-of_placed : (cuts : List ℕ) (to : ℕ) (key : List ℕ) (rows : List Numbered) → of_key key (map (placed cuts to) rows) ≡ map (placed cuts to) (filter (has_key key) rows)
+of_placed : (cuts : List ℕ) (to : ℕ) (key : List ℕ) (rows : List Numbered)
+    → of_key key (map (placed cuts to) rows) ≡ map (placed cuts to) (filter (has_key key) rows)
 of_placed cuts to key [] = refl
 of_placed cuts to key (n ∷ rows) = at (has_key key n) (of_placed cuts to key rows)
   where
@@ -50,29 +54,36 @@ of_placed cuts to key (n ∷ rows) = at (has_key key n) (of_placed cuts to key r
     at true h = ap (λ l. placed cuts to n ∷ l) h
     at false h = h
 
-rises_placed_from : (cuts : List ℕ) (to : ℕ) (x : Numbered) (rows : List Numbered) → RisesFrom key_of_numbered x rows → RisesFrom key_of_kept (placed cuts to x) (map (placed cuts to) rows)
+rises_placed_from : (cuts : List ℕ) (to : ℕ) (x : Numbered) (rows : List Numbered) → RisesFrom key_of_numbered x rows
+    → RisesFrom key_of_kept (placed cuts to x) (map (placed cuts to) rows)
 rises_placed_from cuts to x [] up = tt
 rises_placed_from cuts to x (y ∷ rows) up = (up.0, rises_placed_from cuts to y rows up.1)
 
-rises_placed : (cuts : List ℕ) (to : ℕ) (rows : List Numbered) → RisesBy key_of_numbered rows → RisesBy key_of_kept (map (placed cuts to) rows)
+rises_placed : (cuts : List ℕ) (to : ℕ) (rows : List Numbered) → RisesBy key_of_numbered rows
+    → RisesBy key_of_kept (map (placed cuts to) rows)
 rises_placed cuts to [] up = tt
 rises_placed cuts to (x ∷ rows) up = rises_placed_from cuts to x rows up
 
-placed_marks : (cuts : List ℕ) (to low high : ℕ) (rows : List Numbered) → high ≤ to → NumbersFall low high rows → map (placed cuts to) rows ≡ map (mark (ends_of cuts to)) rows
+placed_marks : (cuts : List ℕ) (to low high : ℕ) (rows : List Numbered) → high ≤ to → NumbersFall low high rows
+    → map (placed cuts to) rows ≡ map (mark (ends_of cuts to)) rows
 placed_marks cuts to low high [] most fall = refl
 placed_marks cuts to low high (n ∷ rows) most fall =
     let le : n.number ≤ to = omega (arith, fall.0) in
     (λ i. record { end = among_is cuts to n.number le i; row = n.row } ∷ placed_marks cuts to low n.number rows le fall.2 i)
 
 -- two lists of writes with the same rows are as long
-pub same_length : (from : ℕ) (writes others : List Row) (rows : List Numbered) → IsPermutation (numbered_after from writes) rows → IsPermutation (numbered_after from others) rows → length writes ≡ length others
+pub same_length : (from : ℕ) (writes others : List Row) (rows : List Numbered)
+    → IsPermutation (numbered_after from writes) rows → IsPermutation (numbered_after from others) rows
+    → length writes ≡ length others
 same_length from writes others rows p q =
     sym (length_numbered from writes)
     ∙ sym (length_permutation (numbered_after from writes) rows p)
     ∙ length_permutation (numbered_after from others) rows q
     ∙ length_numbered from others
 
-pub built_flat : (from to : ℕ) (bottom : Bottom) (writes : List Row) (rows sorted : List Numbered) → AreCuts from to bottom.cuts → from + length writes ≡ to → IsPermutation (numbered_after from writes) rows → IsNewestFirst rows sorted
+pub built_flat : (from to : ℕ) (bottom : Bottom) (writes : List Row) (rows sorted : List Numbered)
+    → AreCuts from to bottom.cuts → from + length writes ≡ to → IsPermutation (numbered_after from writes) rows
+    → IsNewestFirst rows sorted
     → IsFlatOf from to bottom writes (thinned bottom.last (dedup same_place (map (placed bottom.cuts to) sorted)))
 built_flat from to bottom writes rows sorted are full permuted order =
     let cuts = bottom.cuts in
@@ -92,7 +103,8 @@ built_flat from to bottom writes rows sorted are full permuted order =
 
 -- ---- cuts
 
-cut_above : (low : ℕ) (cuts : List ℕ) (high : ℕ) → CutsFrom low cuts high → (j d : ℕ) → j < length cuts → low ≤ get_or cuts j d
+cut_above : (low : ℕ) (cuts : List ℕ) (high : ℕ) → CutsFrom low cuts high → (j d : ℕ) → j < length cuts
+    → low ≤ get_or cuts j d
 cut_above low [] high are j d lt = absurd (omega arith)
 cut_above low (c ∷ cuts) high are zero d lt = omega (arith, are.0)
 cut_above low (c ∷ cuts) high are (suc j) d lt = omega (arith, are.0, cut_above c cuts high are.2 j d (omega arith))
