@@ -1,5 +1,5 @@
 -- What a key's row in a file's bytes does.
-use Rattle.std.proofs.Common.{◌≡◌, ◌≤◌, ◌<◌, ◌^◌, ◌-◌, ◌+◌, ℕ, Bool, true, false, cond, List, [], ◌∷◌, find, take, length, Option, Some, inl, inr, refl, sym, ap, subst, ◌∙◌, arith}
+use Rattle.std.proofs.Common.{◌≡◌, ◌≤◌, ◌<◌, ◌^◌, ◌-◌, ◌+◌, ℕ, Bool, true, false, cond, List, [], ◌∷◌, find, take, length, Option, Some, None, inl, inr, refl, sym, ap, subst, ◌∙◌, arith}
 use Rattle.std.specs.Prelude.{IsSomeAnd, option_map}
 use Rattle.std.specs.List.{AllByRecursion}
 use Rattle.std.proofs.lemmas.List.{take_all}
@@ -24,11 +24,11 @@ use Rattle.sv_plain.proofs.OutputTables.{range_count}
 
 found_stored : (test : Kept → Bool) (rows : List Kept) → AllByRecursion (λ (r : Kept). IsStored r.row) rows → (op : Op) → Some op ≡ option_map (λ (r : Kept). r.row.op) (find test rows) → IsStoredOp op
 found_stored test [] all op e = absurd (cc)
-found_stored test (r ∷ rows) all op e = by_case (test r) e
+found_stored test (r ∷ rows) all op e = by_case (test r) e (found_stored test rows all.1 op)
   where
-    by_case : (b : Bool) → Some op ≡ option_map (λ (x : Kept). x.row.op) (cond b (Some r) (find test rows)) → IsStoredOp op
-    by_case true h = let q : op ≡ r.row.op = cc in subst IsStoredOp (sym q) all.0.op
-    by_case false h = found_stored test rows all.1 op h
+    by_case : (b : Bool) → Some op ≡ option_map (λ (x : Kept). x.row.op) (cond b (Some r) (find test rows)) → (Some op ≡ option_map (λ (x : Kept). x.row.op) (find test rows) → IsStoredOp op) → IsStoredOp op
+    by_case true h later = let q : op ≡ r.row.op = cc in subst IsStoredOp (sym q) all.0.op
+    by_case false h later = later h
 
 pub hit_stored : (bytes key : List ℕ) (cut : ℕ) (found : Option Hit) (hit : Hit) → IsTableFile bytes → found ≡ Some hit → IsFoundIn bytes key cut (hit_op found) → IsStoredOp (op_is hit)
 hit_stored bytes key cut found hit f is h =

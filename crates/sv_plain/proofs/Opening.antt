@@ -19,7 +19,8 @@ use Rattle.sv_plain.specs.declared.immutables.Immutable.{Immutable}
 use Rattle.sv_plain.specs.Installs.{descriptor_of}
 use Rattle.sv_plain.specs.Lasts.{OnlyLast}
 use Rattle.sv_plain.specs.Stands.{IsOwn, Stands}
-use Rattle.sv_plain.specs.Store.{default_family, top_from}
+use Rattle.sv_model.specs.Families.{default_family}
+use Rattle.sv_plain.specs.Store.{top_from}
 
 abbrev first_files : ℕ → FileRegister
 first_files next = record { numbers = []; captured = replicate 16 None; holds = replicate 32 0; jobs = 0; next = next }

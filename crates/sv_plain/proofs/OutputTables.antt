@@ -134,6 +134,12 @@ flat_well journal from to rows some fits few flat =
 
 -- ---- the text
 
+-- The rows of the memtables, as they were put together.
+pub all_written : (file : FileMeta) (p : Parts) → IsDueAs file p → (its : List Immutable) → its ≡ p.immutables.items → (all rows : List Numbered) → rows ≡ all → IsPermutation (numbered_all its) all → IsPermutation (numbered_after file.from (range_of p.journal.items 0 file.from file.to)) rows
+all_written file p h its is all rows rows_are moves =
+    subst (λ (l : List Numbered). IsPermutation l rows) (ap numbered_all is ∙ due_rows file p h)
+    (subst (λ (l : List Numbered). IsPermutation (numbered_all its) l) (sym rows_are) moves)
+
 -- The table that was built over a due file's range.
 pub record IsBuilt (file : FileMeta) (p : Parts) (below : Bottom) (t : Table) : Type 0 where
   pub due : IsDueAs file p
@@ -142,7 +148,7 @@ pub record IsBuilt (file : FileMeta) (p : Parts) (below : Bottom) (t : Table) : 
   pub flat : IsFlatOf file.from file.to below (range_of p.journal.items 0 file.from file.to) t.rows
 
 module _ (file : FileMeta) (p : Parts) (below : Bottom) (t : Table) (h : IsBuilt file p below t) where
-  over : Table
+  abbrev over : Table
   over = record { from = file.from; to = file.to; bottom = plain; rows = t.rows }
 
   same : over ≡ t

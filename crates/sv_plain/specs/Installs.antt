@@ -13,7 +13,7 @@ use Rattle.sv_version.specs.Changes as versions
 use Rattle.sv_registry.specs.Calls as registry
 use Rattle.sv_plain.specs.declared.installs.Switched.{Switched}
 use Rattle.sv_plain.specs.declared.installs.Flushed.{Flushed}
-use Rattle.sv_plain.specs.Store.{first_options}
+use Rattle.sv_model.specs.Families.{first_options}
 
 -- what a SuperVersion of the family names
 abbrev pub descriptor_of : (active list version base : ℕ) → Descriptor

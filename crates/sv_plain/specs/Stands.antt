@@ -19,7 +19,8 @@ use Rattle.sv_plain.specs.declared.immutables.Immutable.{Immutable}
 use Rattle.sv_plain.specs.Immutables.{ImmutablesJoin}
 use Rattle.sv_plain.specs.Lasts.{OnlyLast}
 use Rattle.sv_plain.specs.Removed.{IsFree}
-use Rattle.sv_plain.specs.Store.{default_family, first_options, top_of}
+use Rattle.sv_model.specs.Families.{default_family, first_options}
+use Rattle.sv_plain.specs.Store.{top_of}
 use Rattle.sv_model.specs.Flat.{plain}
 
 -- A write of the one family and the one lane, into a memtable that was made.

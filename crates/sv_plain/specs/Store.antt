@@ -1,21 +1,11 @@
 -- The books of a store of one family: what its calls speak of.
-use Rattle.std.specs.Prelude.{◌≡◌, ◌≤◌, ℕ, All, Bool, cond, List, [], ◌∷◌, Some, None, length, unwrap_or, option_map, codes, replicate, true, false}
-use Rattle.sv_model.specs.declared.Options.{Options}
-use Rattle.sv_model.specs.declared.Family.{Family}
+use Rattle.std.specs.Prelude.{◌≡◌, ◌≤◌, ℕ, All, Bool, cond, List, [], ◌∷◌, Some, None, length, unwrap_or, option_map, true}
 use Rattle.sv_model.specs.declared.Top.{Top}
 use Rattle.sv_model.specs.declared.FileMeta.{FileMeta}
 use Rattle.sv_model.specs.declared.MemtableList.{MemtableList}
 use Rattle.sv_model.specs.Journal.{borne_by, of_family}
 use Rattle.sv_model.specs.Registers.{entry}
 use Rattle.sv_model.specs.Books.{Books, files_of}
-
--- The family's options, as long as none are set.
-abbrev pub first_options : Options
-first_options = record { memtable_rows = 1024; max_immutable = 2 }
-
--- the family `default`, of which each lane has a handle
-abbrev pub default_family : Family
-default_family = record { name = codes "default"; options = first_options; dropped = false; handles = replicate 32 true }
 
 -- The family's current is the SuperVersion made last, until close; its last Version is the one made last.
 abbrev pub top_from : Bool → (supers versions : ℕ) → Top

@@ -3,7 +3,8 @@ use Rattle.std.specs.Prelude.{◌≡◌, ◌+◌, ◌*◌, ◌⊎◌, ℕ, true,
 use Rattle.sv_model.specs.Books.{Books}
 use Rattle.sv_plain.specs.declared.parts.Parts.{Parts}
 use Rattle.sv_plain.specs.Stands.{IsStore, Stands}
-use Rattle.sv_plain.specs.Store.{default_family, top_from}
+use Rattle.sv_model.specs.Families.{default_family}
+use Rattle.sv_plain.specs.Store.{top_from}
 
 abbrev pub books_of : Parts → Books
 books_of p = record {

@@ -2,7 +2,8 @@
 ghost use Rattle.std.specs.Prelude.{◌≡◌, ◌∷◌, [], IfOk, codes, length};
 ghost use Rattle.sv_model.specs.Named.{numbers_of};
 ghost use Rattle.sv_model.specs.Summaries.{family_line, gone_of, made_of, summary_of};
-ghost use Rattle.sv_plain.specs.Store.{default_family, top_from};
+ghost use Rattle.sv_model.specs.Families.{default_family};
+ghost use Rattle.sv_plain.specs.Store.{top_from};
 ghost use Rattle.sv_plain.specs.Views.{Keeps, books_of};
 
 use crate::parts::Parts;

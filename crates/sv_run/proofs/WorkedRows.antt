@@ -15,7 +15,8 @@ use Rattle.sv_script.specs.declared.Command.TheVariants as command
 use Rattle.sv_script.specs.declared.Reply.TheVariants as reply
 use Rattle.sv_script.specs.Answered.{Answered}
 use Rattle.sv_script.specs.ReplyLaw.{due, ReplyFits}
-use Rattle.sv_plain.specs.Store.{default_family, first_options, top_from}
+use Rattle.sv_model.specs.Families.{default_family, first_options}
+use Rattle.sv_plain.specs.Store.{top_from}
 use Rattle.sv_run.specs.RunWords.{dir_word}
 use Rattle.sv_model.specs.Flat.{plain}
 
