@@ -15,6 +15,7 @@ use Rattle.std.proofs.lemmas.Str.Parse.{IsNumeralModel, numerals_by_value, tells
 use Rattle.std.proofs.lemmas.Fmt.{digits_decimal, digits_value-decimal, first_decimal, length-decimal-le, decimal-digits_value}
 use Rattle.sv_model.specs.Files.{padded, suffix, file_name}
 use Rattle.sv_dir.specs.TableNames.{stem_of, ending_of, is_spelled, is_file_name, number_named}
+
 own : IsNumeralModel (λ ds. all_ascii_digits ds ≡ true) (digits_value 10)
 own = numerals_by_value (λ ds. all_ascii_digits ds ≡ true) tells_all_ascii_digits
 

@@ -9,6 +9,7 @@ use Rattle.std.proofs.lemmas.Str.Ascii.{encode_ascii}
 use Rattle.std.proofs.lemmas.List.{replicate_more}
 use Rattle.std.proofs.lemmas.Fmt.{decimal_digit, decimal_step}
 use Rattle.sv_model.specs.Files.{padded}
+
 -- a digit is one byte
 pub digit_is_byte : (d : ℕ) → d < 10 → length (encode_utf8 (48 + d)) ≡ 1
 digit_is_byte d small = ap length (encode_ascii (48 + d) (omega arith))

@@ -6,6 +6,7 @@ use Rattle.sv_dir.specs.declared.fails.Fail.{Fail}
 use Rattle.sv_dir.specs.declared.fails.How.{How}
 use Rattle.sv_dir.specs.declared.fails.How.TheVariants.{Before, Half, After}
 use Rattle.sv_model.specs.Files.{file_name, Files, with_file}
+
 -- how the call of that number is to fail, if it is: the first entry of the number says so
 abbrev pub due : List Fail → ℕ → Option How
 due fails call = option_map (λ f. f.how) (find (λ f. f.call == call) fails)

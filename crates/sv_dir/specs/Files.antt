@@ -9,6 +9,7 @@ use Rattle.sv_dir.specs.declared.dir.Found.TheVariants as found
 use Rattle.sv_dir.specs.declared.dir.Removal.{Removal}
 use Rattle.sv_dir.specs.declared.dir.Removal.TheVariants as removal
 use Rattle.sv_model.specs.Files.{Files, file_name, with_file}
+
 -- the names are the same bytes
 abbrev pub same_name : List ℕ → List ℕ → Bool
 same_name name other = is_eq (slice_cmp nat_cmp name other)

@@ -8,6 +8,7 @@ use Rattle.sv_dir.specs.declared.fails.How.{How}
 use Rattle.sv_dir.specs.declared.memory.MemDir.{MemDir}
 use Rattle.sv_dir.specs.Fails.{due}
 use Rattle.sv_model.specs.Files.{Files}
+
 -- a file as a name with its bytes
 abbrev pub entry_of : String Global × Vec ℕ Global → List ℕ × List ℕ
 entry_of file = (string_bytes file.0, file.1.items)

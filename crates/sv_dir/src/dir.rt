@@ -3,6 +3,7 @@ ghost use Rattle.std.specs.Prelude.{◌≡◌, ℕ, List, map, Option, OnOk, IfO
 ghost use Rattle.sv_model.specs.Faults.{HasCauseOf};
 ghost use Rattle.sv_model.specs.Files.{Files, file_of};
 ghost use Rattle.sv_dir.specs.Files.{PutsFile, LeavesAny, RemovesFile, MayRemove, ListsEach, Finds, removal_of};
+
 use std::alloc::{AllocError, AllocFailed};
 use sv_model::{FileNumber, OutOfMemory};
 

@@ -5,6 +5,7 @@ ghost use Rattle.std.specs.Char.{is_ascii_digit};
 ghost use Rattle.arrayvec.specs.ArrayString.{array_string_len};
 ghost use Rattle.sv_model.specs.Files.{padded, file_name as name_of};
 ghost use Rattle.sv_dir.specs.TableNames.{is_spelled, number_named};
+
 use arrayvec::ArrayString;
 use sv_model::FileNumber;
 

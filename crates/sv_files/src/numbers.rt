@@ -21,8 +21,8 @@ pub(crate) struct Numbers {
     files: Vec<RegisteredFile>,
     /// By number, where it stands in `files`.
     places: BTreeMap<u64, usize>,
-    /// The Obsolete numbers, ascending. There is room for every number, so that a change of status takes
-    /// no memory.
+    /// The Obsolete numbers, ascending. There is room for every number, as `files` has it, so that a
+    /// change of status takes no memory.
     obsolete: VecDeque<u64>,
 }
 
@@ -105,7 +105,8 @@ impl Numbers {
         let at = self.files.len();
         let waiting = self.obsolete.len();
         self.files.reserve(1)?;
-        self.obsolete.reserve(at + 1 - waiting)?;
+        let room = self.files.capacity();
+        self.obsolete.reserve(room - waiting)?;
         if self.places.insert(number, at).is_err() {
             return Err(OutOfMemory);
         }

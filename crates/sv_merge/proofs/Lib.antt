@@ -1,8 +1,8 @@
-pub mod Built
-pub mod Merged
-pub mod Newest
+pub mod BuildLaws
+pub mod InOrderLaws
+pub mod MergeLaws
+pub mod MergeWellFormed
+pub mod NewestFirst
 pub mod PlacingLaws
 pub mod SameFirsts
-pub mod Sorting
-pub mod Stays
-pub mod WellMerged
+pub mod ThinnedLaws

@@ -7,7 +7,8 @@ use Rattle.sv_model.specs.Flat.{end_among}
 use Rattle.sv_merge.specs.declared.placing.Placed.{Placed}
 use Rattle.sv_merge.specs.Placing.{kept_of, kepts_of, same_place}
 
-pub among_at : (cuts : List ℕ) (to number at : ℕ) → ((k d : ℕ) → k < at → nat_lt (get_or cuts k d) number ≡ true) → ((k d : ℕ) → at ≤ k → k < length cuts → nat_lt (get_or cuts k d) number ≡ false)
+pub among_at : (cuts : List ℕ) (to number at : ℕ) → ((k d : ℕ) → k < at → nat_lt (get_or cuts k d) number ≡ true)
+    → ((k d : ℕ) → at ≤ k → k < length cuts → nat_lt (get_or cuts k d) number ≡ false)
     → unwrap_or (slice_get cuts at) to ≡ end_among cuts to number
 among_at [] to number at low high = refl
 among_at (c ∷ cuts) to number zero low high =
@@ -20,11 +21,13 @@ among_at (c ∷ cuts) to number (suc at) low high =
 abbrev pub same_placed : Placed → Placed → Bool
 same_placed p q = same_place (kept_of p) (kept_of q)
 
-map_dedup_from : (p : Placed) (rows : List Placed) → kepts_of (dedup_from same_placed p rows) ≡ dedup_from same_place (kept_of p) (kepts_of rows)
+map_dedup_from : (p : Placed) (rows : List Placed)
+    → kepts_of (dedup_from same_placed p rows) ≡ dedup_from same_place (kept_of p) (kepts_of rows)
 map_dedup_from p [] = refl
 map_dedup_from p (q ∷ rows) = at (same_placed q p) (map_dedup_from p rows) (map_dedup_from q rows)
   where
-    at : (b : Bool) → kepts_of (dedup_from same_placed p rows) ≡ dedup_from same_place (kept_of p) (kepts_of rows) → kepts_of (dedup_from same_placed q rows) ≡ dedup_from same_place (kept_of q) (kepts_of rows)
+    at : (b : Bool) → kepts_of (dedup_from same_placed p rows) ≡ dedup_from same_place (kept_of p) (kepts_of rows)
+        → kepts_of (dedup_from same_placed q rows) ≡ dedup_from same_place (kept_of q) (kepts_of rows)
         → kepts_of (cond b (dedup_from same_placed p rows) (p ∷ dedup_from same_placed q rows)) ≡ cond b (dedup_from same_place (kept_of p) (kepts_of rows)) (kept_of p ∷ dedup_from same_place (kept_of q) (kepts_of rows))
     at true h i = h
     at false h i = ap (λ l. kept_of p ∷ l) i

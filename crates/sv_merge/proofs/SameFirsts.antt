@@ -12,7 +12,8 @@ use Rattle.sv_merge.specs.Merging.{moved}
 abbrev pub SameFirsts : List Kept → List Kept → Type 0
 SameFirsts xs ys = (last : Option ℕ) (more : List Kept) → firsts last (xs ++ more) ≡ firsts last (ys ++ more)
 
-behind : (front xs ys : List Kept) → ((last : Option ℕ) → firsts last xs ≡ firsts last ys) → (last : Option ℕ) → firsts last (front ++ xs) ≡ firsts last (front ++ ys)
+behind : (front xs ys : List Kept) → ((last : Option ℕ) → firsts last xs ≡ firsts last ys) → (last : Option ℕ)
+    → firsts last (front ++ xs) ≡ firsts last (front ++ ys)
 behind [] xs ys same last = same last
 behind (r ∷ front) xs ys same last =
     (λ i. cond (is_last last r.end) (behind front xs ys same last i) (r ∷ behind front xs ys same (Some r.end) i))
@@ -37,7 +38,8 @@ module _ (cuts : List ℕ) (to : ℕ) where
   Follows None new = Unit {0}
   Follows (Some e) new = new ≡ Some (end_among cuts to e)
 
-  again_new : (old new : Option ℕ) (e : ℕ) → Follows old new → is_last old e ≡ true → is_last new (end_among cuts to e) ≡ true
+  again_new : (old new : Option ℕ) (e : ℕ) → Follows old new → is_last old e ≡ true
+      → is_last new (end_among cuts to e) ≡ true
   again_new None new e follows same = absurd (cc same)
   again_new (Some l) new e follows same =
       ap (λ (x : Option ℕ). is_last x (end_among cuts to e)) follows
@@ -47,7 +49,8 @@ module _ (cuts : List ℕ) (to : ℕ) where
   follows_next None e same = absurd (cc same)
   follows_next (Some l) e same = ap Some (sym (eqb-true (end_among cuts to e) l same))
 
-  twice : (old new : Option ℕ) (rows more : List Kept) → Follows old new → firsts new (map (moved cuts to) (firsts old rows) ++ more) ≡ firsts new (map (moved cuts to) rows ++ more)
+  twice : (old new : Option ℕ) (rows more : List Kept) → Follows old new
+      → firsts new (map (moved cuts to) (firsts old rows) ++ more) ≡ firsts new (map (moved cuts to) rows ++ more)
   twice old new [] more follows = refl
   twice old new (r ∷ rows) more follows =
       at (is_last old r.end) refl (is_last new (end_among cuts to r.end)) refl (twice old new rows more follows) (λ n f. twice (Some r.end) n rows more f)
@@ -76,15 +79,18 @@ firsts_deletes : (last : Option ℕ) (rows : List Kept) → AllDeletes rows → 
 firsts_deletes last [] all = tt
 firsts_deletes last (r ∷ rows) all = at (is_last last r.end) (firsts_deletes last rows all.1) (firsts_deletes (Some r.end) rows all.1)
   where
-    at : (b : Bool) → AllDeletes (firsts last rows) → AllDeletes (firsts (Some r.end) rows) → AllDeletes (cond b (firsts last rows) (r ∷ firsts (Some r.end) rows))
+    at : (b : Bool) → AllDeletes (firsts last rows) → AllDeletes (firsts (Some r.end) rows)
+        → AllDeletes (cond b (firsts last rows) (r ∷ firsts (Some r.end) rows))
     at true h n = h
     at false h n = (all.0, n)
 
-split_deletes : (last : Option ℕ) (rows old : List Kept) → AllDeletes old → (left : List Kept) × (firsts last (rows ++ old) ≡ firsts last rows ++ left) × AllDeletes left
+split_deletes : (last : Option ℕ) (rows old : List Kept) → AllDeletes old
+    → (left : List Kept) × (firsts last (rows ++ old) ≡ firsts last rows ++ left) × AllDeletes left
 split_deletes last [] old all = (firsts last old, refl, firsts_deletes last old all)
 split_deletes last (r ∷ rows) old all = at (is_last last r.end) (split_deletes last rows old all) (split_deletes (Some r.end) rows old all)
   where
-    at : (b : Bool) → (left : List Kept) × (firsts last (rows ++ old) ≡ firsts last rows ++ left) × AllDeletes left → (left : List Kept) × (firsts (Some r.end) (rows ++ old) ≡ firsts (Some r.end) rows ++ left) × AllDeletes left
+    at : (b : Bool) → (left : List Kept) × (firsts last (rows ++ old) ≡ firsts last rows ++ left) × AllDeletes left
+        → (left : List Kept) × (firsts (Some r.end) (rows ++ old) ≡ firsts (Some r.end) rows ++ left) × AllDeletes left
         → (left : List Kept) × (cond b (firsts last (rows ++ old)) (r ∷ firsts (Some r.end) (rows ++ old)) ≡ cond b (firsts last rows) (r ∷ firsts (Some r.end) rows) ++ left) × AllDeletes left
     at true h n = h
     at false h n = (n.0, ap (λ (l : List Kept). r ∷ l) n.1, n.2)
@@ -98,7 +104,8 @@ without_more : (rows old : List Kept) → AllDeletes old → without_last_delete
 without_more [] old all = without_deletes old all
 without_more (r ∷ rows) old all = ap (λ (l : List Kept). cond (is_delete r.row.op && is_empty l) [] (r ∷ l)) (without_more rows old all)
 
-pub old_deletes : (rows old : List Kept) → AllDeletes old → without_last_deletes (firsts None (rows ++ old)) ≡ without_last_deletes (firsts None rows)
+pub old_deletes : (rows old : List Kept) → AllDeletes old
+    → without_last_deletes (firsts None (rows ++ old)) ≡ without_last_deletes (firsts None rows)
 old_deletes rows old all =
     let split = split_deletes None rows old all in ap without_last_deletes split.1 ∙ without_more (firsts None rows) split.0 split.2
 

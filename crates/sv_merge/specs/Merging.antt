@@ -24,8 +24,8 @@ abbrev pub NoneLast : List Table → Type 0
 NoneLast tables = AllByRecursion (λ t. t.bottom.last ≡ false) tables
 
 -- each of the cuts that lies inside a table's range is one of the table's cuts
-abbrev pub AreClear : List ℕ → List Table → Type 0
-AreClear cuts tables = AllByRecursion (λ t. Every (IsClearIn t.from t.to t.bottom.cuts) cuts) tables
+abbrev pub EachClear : List ℕ → List Table → Type 0
+EachClear cuts tables = AllByRecursion (λ t. Every (IsClearIn t.from t.to t.bottom.cuts) cuts) tables
 
 -- each of the tables is well formed
 abbrev pub AreWellFormed : List Table → Type 0

@@ -5,7 +5,7 @@ ghost use Rattle.sv_model.specs.declared.writes.Write.{Write};
 ghost use Rattle.sv_model.specs.Flat.{IsFlat};
 ghost use Rattle.sv_model.specs.TableText.{IsWellFormed};
 ghost use Rattle.sv_merge.specs.Placing.{kepts_of};
-ghost use Rattle.sv_merge.specs.Merging.{Joined, JoinedWith, NoneLast, AreClear, AreWellFormed, newest_rows, moved, IsMergeOf, AreFlats, InOrder};
+ghost use Rattle.sv_merge.specs.Merging.{Joined, JoinedWith, NoneLast, EachClear, AreWellFormed, newest_rows, moved, IsMergeOf, AreFlats, InOrder};
 
 use crate::placing::{Placed, end_among, kept_rows};
 use std::alloc::Global;
@@ -71,7 +71,7 @@ pub fn merge(alloc: Global, tables: &[Table], bottom: Bottom) -> Result<Table, O
     // Of well-formed tables, none was made for the last where something may lie below.
     requires plain { bottom.last ≡ false → AreWellFormed tables.now → NoneLast tables.now }
     // Each cut that lies inside a table's range is one of the table's.
-    requires clear { AreClear bottom.cuts tables.now }
+    requires clear { EachClear bottom.cuts tables.now }
     ensures range { IfOk result (λ t. Joined t.from tables.now t.to) }
     ensures bottom { IfOk result (λ t. t.bottom ≡ bottom) }
     ensures rows { IfOk result (λ t. IsMergeOf tables.now t.to bottom t.rows) }

@@ -92,7 +92,8 @@ abbrev pub DescendFrom : ℕ → List ℕ → Type 0
 DescendFrom high [] = Unit {0}
 DescendFrom high (d ∷ ds) = (d < high) × DescendFrom d ds
 
-descend_push : (high c : ℕ) (ds : List ℕ) → DescendFrom high ds → AllByRecursion (λ d. c < d) ds → c < high → DescendFrom high (ds ++ c ∷ [])
+descend_push : (high c : ℕ) (ds : List ℕ) → DescendFrom high ds → AllByRecursion (λ d. c < d) ds → c < high
+    → DescendFrom high (ds ++ c ∷ [])
 descend_push high c [] down above lt = (lt, tt)
 descend_push high c (d ∷ ds) down above lt = (down.0, descend_push d c ds down.1 above.1 above.0)
 
@@ -109,13 +110,15 @@ all_turned P [] all = tt
 all_turned P (d ∷ ds) all =
     subst (AllByRecursion P) (sym (reverse-append (d ∷ []) ds)) (all_push P (reverse ds) d (all_turned P ds all.1) all.0)
 
-pub turned_down : (high low : ℕ) (ds : List ℕ) → AscendFrom low ds → AllByRecursion (λ d. d < high) ds → DescendFrom high (reverse ds)
+pub turned_down : (high low : ℕ) (ds : List ℕ) → AscendFrom low ds → AllByRecursion (λ d. d < high) ds
+    → DescendFrom high (reverse ds)
 turned_down high low [] up under = tt
 turned_down high low (d ∷ ds) up under =
     subst (DescendFrom high) (sym (reverse-append (d ∷ []) ds))
     (descend_push high d (reverse ds) (turned_down high d ds up.1 under.1) (all_turned (λ e. d < e) ds (all_above d d ds (omega arith) up.1)) under.0)
 
-pub ends_under : (low to : ℕ) (cuts : List ℕ) → CutsFrom low cuts to → AllByRecursion (λ d. d < suc to) (ends_of cuts to)
+pub ends_under : (low to : ℕ) (cuts : List ℕ) → CutsFrom low cuts to
+    → AllByRecursion (λ d. d < suc to) (ends_of cuts to)
 ends_under low to [] are = (omega arith, tt)
 ends_under low to (cut ∷ cuts) are = (omega (arith, are.1), ends_under cut to cuts are.2)
 
@@ -161,7 +164,8 @@ end_least low (e ∷ ends) n c up there le = elim (cases_Bool (nat_le n e)) [
 ]
 
 -- the end of a greater number is not smaller
-pub end_rises : (low : ℕ) (ends : List ℕ) (n m c : ℕ) → AscendFrom low ends → Among c ends → n ≤ m → m ≤ c → end_at ends n ≤ end_at ends m
+pub end_rises : (low : ℕ) (ends : List ℕ) (n m c : ℕ) → AscendFrom low ends → Among c ends → n ≤ m → m ≤ c
+    → end_at ends n ≤ end_at ends m
 end_rises low ends n m c up there le most =
     let r = end_is ends m c there most in end_least low ends n (end_at ends m) up r.0 (omega (arith, r.1))
 
@@ -176,7 +180,8 @@ among_is (cut ∷ cuts) to n le = elim (cases_Bool (nat_le n cut)) [
 -- ---- a range with its cuts
 
 module _ (from to : ℕ) (cuts : List ℕ) (are : CutsFrom from cuts to) where
-  pub range_end_is : (n : ℕ) → n ≤ to → Among (end_at (ends_of cuts to) n) (ends_of cuts to) × (n ≤ end_at (ends_of cuts to) n)
+  pub range_end_is : (n : ℕ) → n ≤ to
+      → Among (end_at (ends_of cuts to) n) (ends_of cuts to) × (n ≤ end_at (ends_of cuts to) n)
   range_end_is n le = end_is (ends_of cuts to) n to (to_among cuts to) le
 
   pub range_end_most : (n : ℕ) → n ≤ to → end_at (ends_of cuts to) n ≤ to
@@ -191,7 +196,8 @@ module _ (from to : ℕ) (cuts : List ℕ) (are : CutsFrom from cuts to) where
       end_rises from (ends_of cuts to) n m to (ends_ascend from to cuts lt are) (to_among cuts to) le most
 
   -- a write is within a cut exactly where its end is
-  pub clear_le : (cut n : ℕ) → IsClearIn from to cuts cut → from < n → n ≤ to → n ≤ cut → end_at (ends_of cuts to) n ≤ cut
+  pub clear_le : (cut n : ℕ) → IsClearIn from to cuts cut → from < n → n ≤ to → n ≤ cut
+      → end_at (ends_of cuts to) n ≤ cut
   clear_le cut n clear more most le = elim clear [
     | inl one ↦ range_end_least n cut more most one le
     | inr out ↦ elim out [
@@ -200,7 +206,8 @@ module _ (from to : ℕ) (cuts : List ℕ) (are : CutsFrom from cuts to) where
     ]
   ]
 
-  pub clear_same : (cut n : ℕ) → IsClearIn from to cuts cut → from < n → n ≤ to → nat_le (end_at (ends_of cuts to) n) cut ≡ nat_le n cut
+  pub clear_same : (cut n : ℕ) → IsClearIn from to cuts cut → from < n → n ≤ to
+      → nat_le (end_at (ends_of cuts to) n) cut ≡ nat_le n cut
   clear_same cut n clear more most = elim (cases_Bool (nat_le n cut)) [
     | inl h ↦ le-leb (end_at (ends_of cuts to) n) cut (clear_le cut n clear more most (leb-true n cut h)) ∙ sym h
     | inr h ↦ lt-leb (end_at (ends_of cuts to) n) cut (let below = leb-false n cut h in omega (arith, (range_end_is n most).1)) ∙ sym h

@@ -29,7 +29,8 @@ before_rises a b h = elim (or_cases (is_below a.row.key b.row.key) (same_key a.r
       subst (λ (k : List ℕ). is_below k a.row.key ≡ false) e (below_self a.row.key)
 ]
 
-ordered_rise : (last : Kept) (rows : List Kept) → OrderedFrom key_of_kept end_of_kept last rows → RisesFrom key_of_kept last rows
+ordered_rise : (last : Kept) (rows : List Kept) → OrderedFrom key_of_kept end_of_kept last rows
+    → RisesFrom key_of_kept last rows
 ordered_rise last [] up = tt
 ordered_rise last (r ∷ rows) up = (before_rises last r up.0, ordered_rise r rows up.1)
 
@@ -41,27 +42,32 @@ pub rises_rest : (r : Kept) (rows : List Kept) → RisesFrom key_of_kept r rows 
 rises_rest r [] up = tt
 rises_rest r (x ∷ rows) up = up.1
 
-pub rises_as : (p q : Kept) (rows : List Kept) → p.row.key ≡ q.row.key → RisesFrom key_of_kept p rows → RisesFrom key_of_kept q rows
+pub rises_as : (p q : Kept) (rows : List Kept) → p.row.key ≡ q.row.key → RisesFrom key_of_kept p rows
+    → RisesFrom key_of_kept q rows
 rises_as p q [] e up = tt
 rises_as p q (r ∷ rows) e up = (subst (λ (k : List ℕ). is_below r.row.key k ≡ false) e up.0, up.1)
 
-pub rises_lower : (p q : Kept) (rows : List Kept) → is_below q.row.key p.row.key ≡ false → RisesFrom key_of_kept q rows → RisesFrom key_of_kept p rows
+pub rises_lower : (p q : Kept) (rows : List Kept) → is_below q.row.key p.row.key ≡ false
+    → RisesFrom key_of_kept q rows → RisesFrom key_of_kept p rows
 rises_lower p q [] h up = tt
 rises_lower p q (r ∷ rows) h up = (not_below_trans r.row.key q.row.key p.row.key up.0 h, up.1)
 
 -- ---- the rows of a key
 
-pub key_yes : (key : List ℕ) (r : Kept) (rows : List Kept) → same_key key r.row.key ≡ true → of_key key (r ∷ rows) ≡ r ∷ of_key key rows
+pub key_yes : (key : List ℕ) (r : Kept) (rows : List Kept) → same_key key r.row.key ≡ true
+    → of_key key (r ∷ rows) ≡ r ∷ of_key key rows
 key_yes key r rows e = ap (λ (b : Bool). cond b (r ∷ of_key key rows) (of_key key rows)) e
 
-pub key_no : (key : List ℕ) (r : Kept) (rows : List Kept) → same_key key r.row.key ≡ false → of_key key (r ∷ rows) ≡ of_key key rows
+pub key_no : (key : List ℕ) (r : Kept) (rows : List Kept) → same_key key r.row.key ≡ false
+    → of_key key (r ∷ rows) ≡ of_key key rows
 key_no key r rows e = ap (λ (b : Bool). cond b (r ∷ of_key key rows) (of_key key rows)) e
 
 pub key_own : (r : Kept) (rows : List Kept) → of_key r.row.key (r ∷ rows) ≡ r ∷ of_key r.row.key rows
 key_own r rows = key_yes r.row.key r rows (same_yes r.row.key r.row.key refl)
 
 -- a key has no row behind one of a higher key
-pub gone : (key : List ℕ) (q : Kept) (rows : List Kept) → is_below key q.row.key ≡ true → RisesFrom key_of_kept q rows → of_key key rows ≡ []
+pub gone : (key : List ℕ) (q : Kept) (rows : List Kept) → is_below key q.row.key ≡ true → RisesFrom key_of_kept q rows
+    → of_key key rows ≡ []
 gone key q [] high up = refl
 gone key q (r ∷ rows) high up =
     let higher : is_below key r.row.key ≡ true = elim (cases_Bool (same_key q.row.key r.row.key)) [
@@ -71,7 +77,8 @@ gone key q (r ∷ rows) high up =
     key_no key r rows (same_no key r.row.key (below_other key r.row.key higher)) ∙ gone key r rows higher up.1
 
 -- a key that has rows is not below the one before
-later_not_below : (key : List ℕ) (last : Kept) (rows : List Kept) (z : Kept) (zs : List Kept) → RisesFrom key_of_kept last rows → of_key key rows ≡ z ∷ zs → is_below key last.row.key ≡ false
+later_not_below : (key : List ℕ) (last : Kept) (rows : List Kept) (z : Kept) (zs : List Kept)
+    → RisesFrom key_of_kept last rows → of_key key rows ≡ z ∷ zs → is_below key last.row.key ≡ false
 later_not_below key last [] z zs up e = absurd (cc e)
 later_not_below key last (r ∷ rows) z zs up e = elim (cases_Bool (same_key key r.row.key)) [
   | inl same ↦ subst (λ (k : List ℕ). is_below k last.row.key ≡ false) (sym (same_eq key r.row.key same)) up.0
@@ -87,7 +94,8 @@ tails x y xs ys e = cc
 no_cons : (x : Kept) (xs : List Kept) → [] ≡ x ∷ xs → ⊥
 no_cons x xs e = cc e
 
-same_heads : (x y : Kept) (xs ys : List Kept) → RisesFrom key_of_kept x xs → RisesFrom key_of_kept y ys → ((key : List ℕ) → of_key key (x ∷ xs) ≡ of_key key (y ∷ ys)) → x ≡ y
+same_heads : (x y : Kept) (xs ys : List Kept) → RisesFrom key_of_kept x xs → RisesFrom key_of_kept y ys
+    → ((key : List ℕ) → of_key key (x ∷ xs) ≡ of_key key (y ∷ ys)) → x ≡ y
 same_heads x y xs ys up down h = elim (cases_Bool (same_key x.row.key y.row.key)) [
   | inl same ↦ heads x y (of_key x.row.key xs) (of_key x.row.key ys) (sym (key_own x xs) ∙ h x.row.key ∙ key_yes x.row.key y ys same)
   | inr other ↦
@@ -102,7 +110,8 @@ same_tails true x xs ys e = tails x x xs ys e
 same_tails false x xs ys e = e
 
 -- rows by key are the same where each key's rows are
-pub one_list : (xs ys : List Kept) → RisesBy key_of_kept xs → RisesBy key_of_kept ys → ((key : List ℕ) → of_key key xs ≡ of_key key ys) → xs ≡ ys
+pub one_list : (xs ys : List Kept) → RisesBy key_of_kept xs → RisesBy key_of_kept ys
+    → ((key : List ℕ) → of_key key xs ≡ of_key key ys) → xs ≡ ys
 one_list [] [] up down h = refl
 one_list [] (y ∷ ys) up down h = absurd (no_cons y (of_key y.row.key ys) (h y.row.key ∙ key_own y ys))
 one_list (x ∷ xs) [] up down h = absurd (no_cons x (of_key x.row.key xs) (sym (h x.row.key) ∙ key_own x xs))
@@ -112,12 +121,14 @@ one_list (x ∷ xs) (y ∷ ys) up down h =
     (λ key. same_tails (same_key key x.row.key) x (of_key key xs) (of_key key ys) (h key ∙ ap (λ (z : Kept). of_key key (z ∷ ys)) (sym head))) in
     (λ i. head i ∷ rest i)
 
-all_cond : (P : Kept → Type 0) (b : Bool) (r : Kept) (rows : List Kept) → AllByRecursion P (cond b (r ∷ rows) rows) → AllByRecursion P rows
+all_cond : (P : Kept → Type 0) (b : Bool) (r : Kept) (rows : List Kept) → AllByRecursion P (cond b (r ∷ rows) rows)
+    → AllByRecursion P rows
 all_cond P true r rows all = all.1
 all_cond P false r rows all = all
 
 -- what holds of each key's rows holds of all
-pub all_of_keys : (P : Kept → Type 0) (rows : List Kept) → ((key : List ℕ) → AllByRecursion P (of_key key rows)) → AllByRecursion P rows
+pub all_of_keys : (P : Kept → Type 0) (rows : List Kept) → ((key : List ℕ) → AllByRecursion P (of_key key rows))
+    → AllByRecursion P rows
 all_of_keys P [] each = tt
 all_of_keys P (r ∷ rows) each =
     let own : AllByRecursion P (r ∷ of_key r.row.key rows) = subst (AllByRecursion P) (key_own r rows) (each r.row.key) in
@@ -146,7 +157,8 @@ or_right : (x y : Bool) → y ≡ true → (x || y) ≡ true
 or_right true y h = refl
 or_right false y h = h
 
-next_before : (x y : Kept) (rows : List Kept) → is_below y.row.key x.row.key ≡ false → Drops (of_key x.row.key (x ∷ y ∷ rows)) → comes_before key_of_kept end_of_kept x y ≡ true
+next_before : (x y : Kept) (rows : List Kept) → is_below y.row.key x.row.key ≡ false
+    → Drops (of_key x.row.key (x ∷ y ∷ rows)) → comes_before key_of_kept end_of_kept x y ≡ true
 next_before x y rows up down = elim (cases_Bool (same_key x.row.key y.row.key)) [
   | inl same ↦
       let both : Drops (x ∷ y ∷ of_key x.row.key rows) = subst Drops (key_own x (y ∷ rows) ∙ ap (λ (l : List Kept). x ∷ l) (key_yes x.row.key y rows same)) down in
@@ -154,13 +166,15 @@ next_before x y rows up down = elim (cases_Bool (same_key x.row.key y.row.key)) 
   | inr other ↦ or_left (is_below x.row.key y.row.key) (same_key x.row.key y.row.key && nat_lt y.end x.end) (above x.row.key y.row.key up other)
 ]
 
-ordered_from : (last : Kept) (rows : List Kept) → RisesFrom key_of_kept last rows → ((key : List ℕ) → Drops (of_key key (last ∷ rows))) → OrderedFrom key_of_kept end_of_kept last rows
+ordered_from : (last : Kept) (rows : List Kept) → RisesFrom key_of_kept last rows
+    → ((key : List ℕ) → Drops (of_key key (last ∷ rows))) → OrderedFrom key_of_kept end_of_kept last rows
 ordered_from last [] up down = tt
 ordered_from last (r ∷ rows) up down =
     (next_before last r rows up.0 (down last.row.key), ordered_from r rows up.1 (λ key. drops_cond (same_key key last.row.key) last (of_key key (r ∷ rows)) (down key)))
 
 -- rows by key, of which those of each key fall by end, stand in order
-pub ordered_of_keys : (rows : List Kept) → RisesBy key_of_kept rows → ((key : List ℕ) → Drops (of_key key rows)) → OrderedBy key_of_kept end_of_kept rows
+pub ordered_of_keys : (rows : List Kept) → RisesBy key_of_kept rows → ((key : List ℕ) → Drops (of_key key rows))
+    → OrderedBy key_of_kept end_of_kept rows
 ordered_of_keys [] up down = tt
 ordered_of_keys (r ∷ rows) up down = ordered_from r rows up down
 
@@ -213,26 +227,32 @@ module _ {A B : Type 0} (key : A → List ℕ) (own : B → List ℕ) where
   first_less k [] some = absurd (omega (arith, some))
   first_less k (y ∷ ys) some = at (same_key k (own y)) some (first_less k ys)
     where
-      at : (b : Bool) → 1 ≤ length (cond b (y ∷ of_right k ys) (of_right k ys)) → (1 ≤ length (of_right k ys) → length ys ≡ suc (length (without_first k ys))) → length (y ∷ ys) ≡ suc (length (cond b ys (y ∷ without_first k ys)))
+      at : (b : Bool) → 1 ≤ length (cond b (y ∷ of_right k ys) (of_right k ys))
+          → (1 ≤ length (of_right k ys) → length ys ≡ suc (length (without_first k ys)))
+          → length (y ∷ ys) ≡ suc (length (cond b ys (y ∷ without_first k ys)))
       at true s ih = refl
       at false s ih = ap suc (ih s)
 
-  first_most : (k other : List ℕ) (ys : List B) → length (of_right other ys) ≤ suc (length (of_right other (without_first k ys)))
+  first_most : (k other : List ℕ) (ys : List B)
+      → length (of_right other ys) ≤ suc (length (of_right other (without_first k ys)))
   first_most k other [] = omega arith
   first_most k other (y ∷ ys) = at (same_key k (own y)) (same_key other (own y)) refl (first_most k other ys)
     where
-      at : (b c : Bool) → same_key other (own y) ≡ c → length (of_right other ys) ≤ suc (length (of_right other (without_first k ys)))
+      at : (b c : Bool) → same_key other (own y) ≡ c
+          → length (of_right other ys) ≤ suc (length (of_right other (without_first k ys)))
           → length (cond c (y ∷ of_right other ys) (of_right other ys)) ≤ suc (length (of_right other (cond b ys (y ∷ without_first k ys))))
       at true true e ih = omega arith
       at true false e ih = omega arith
       at false true e ih = let more = ap (λ (t : Bool). length (cond t (y ∷ of_right other (without_first k ys)) (of_right other (without_first k ys)))) e in omega (arith, more, ih)
       at false false e ih = let more = ap (λ (t : Bool). length (cond t (y ∷ of_right other (without_first k ys)) (of_right other (without_first k ys)))) e in omega (arith, more, ih)
 
-  first_other : (k other : List ℕ) (ys : List B) → same_key other k ≡ false → length (of_right other ys) ≤ length (of_right other (without_first k ys))
+  first_other : (k other : List ℕ) (ys : List B) → same_key other k ≡ false
+      → length (of_right other ys) ≤ length (of_right other (without_first k ys))
   first_other k other [] apart = omega arith
   first_other k other (y ∷ ys) apart = at (same_key k (own y)) refl (same_key other (own y)) refl (first_other k other ys apart)
     where
-      at : (b : Bool) → same_key k (own y) ≡ b → (c : Bool) → same_key other (own y) ≡ c → length (of_right other ys) ≤ length (of_right other (without_first k ys))
+      at : (b : Bool) → same_key k (own y) ≡ b → (c : Bool) → same_key other (own y) ≡ c
+          → length (of_right other ys) ≤ length (of_right other (without_first k ys))
           → length (cond c (y ∷ of_right other ys) (of_right other ys)) ≤ length (of_right other (cond b ys (y ∷ without_first k ys)))
       at true d true e ih = absurd (both_ways (same_key other k) apart (same_yes other k (same_eq other (own y) e ∙ sym (same_eq k (own y) d))))
       at true d false e ih = omega arith
@@ -242,15 +262,19 @@ module _ {A B : Type 0} (key : A → List ℕ) (own : B → List ℕ) where
   own_left : (x : A) (xs : List A) → length (of_left (key x) (x ∷ xs)) ≡ suc (length (of_left (key x) xs))
   own_left x xs = ap (λ (b : Bool). length (cond b (x ∷ of_left (key x) xs) (of_left (key x) xs))) (same_yes (key x) (key x) refl)
 
-  fewer : (x : A) (xs : List A) (ys : List B) → ((k : List ℕ) → length (of_left k (x ∷ xs)) ≤ length (of_right k ys)) → (k : List ℕ) → length (of_left k xs) ≤ length (of_right k (without_first (key x) ys))
+  fewer : (x : A) (xs : List A) (ys : List B) → ((k : List ℕ) → length (of_left k (x ∷ xs)) ≤ length (of_right k ys))
+      → (k : List ℕ) → length (of_left k xs) ≤ length (of_right k (without_first (key x) ys))
   fewer x xs ys few k = at (same_key k (key x)) refl (few k)
     where
-      at : (b : Bool) → same_key k (key x) ≡ b → length (cond b (x ∷ of_left k xs) (of_left k xs)) ≤ length (of_right k ys) → length (of_left k xs) ≤ length (of_right k (without_first (key x) ys))
+      at : (b : Bool) → same_key k (key x) ≡ b
+          → length (cond b (x ∷ of_left k xs) (of_left k xs)) ≤ length (of_right k ys)
+          → length (of_left k xs) ≤ length (of_right k (without_first (key x) ys))
       at true e le = omega (arith, first_most (key x) k ys, le)
       at false e le = omega (arith, first_other (key x) k ys e, le)
 
   -- there are at most as many where of each key there are
-  pub few_of_keys : (xs : List A) (ys : List B) → ((k : List ℕ) → length (of_left k xs) ≤ length (of_right k ys)) → length xs ≤ length ys
+  pub few_of_keys : (xs : List A) (ys : List B) → ((k : List ℕ) → length (of_left k xs) ≤ length (of_right k ys))
+      → length xs ≤ length ys
   few_of_keys [] ys few = omega arith
   few_of_keys (x ∷ xs) ys few =
       let here = own_left x xs in

@@ -1,9 +1,12 @@
 -- Ranges of a family's writes: how many there are, their parts and numbers.
-use Rattle.std.proofs.Common.{◌≡◌, ℕ, zero, suc, ◌≤◌, ◌+◌, ◌-◌, List, [], ◌∷◌, ◌++◌, length, map, take, drop, refl, sym, ap, ◌∙◌, arith}
-use Rattle.std.proofs.lemmas.List.{length-map, length-drop, take_all, take-map}
+use Rattle.std.proofs.Common.{◌≡◌, ℕ, zero, suc, ◌≤◌, ◌+◌, ◌-◌, List, [], ◌∷◌, ◌++◌, length, map, reverse, take, drop, Option, Some, None, refl, sym, ap, ◌∙◌, arith}
+use Rattle.std.specs.Option.{option_map, option_or}
+use Rattle.std.specs.List.{find}
+use Rattle.std.proofs.lemmas.List.{map-append, reverse-append, length-map, length-drop, take_all, take-map}
+use Rattle.std.proofs.lemmas.List.Folds.{find-append}
 use Rattle.sv_model.specs.declared.writes.Write.{Write}
 use Rattle.sv_model.specs.declared.writes.Row.{Row}
-use Rattle.sv_model.specs.Journal.{of_family, row_of, rows_of}
+use Rattle.sv_model.specs.Journal.{same_key, newest_row, newest_op, of_family, row_of, rows_of}
 use Rattle.sv_model.specs.Flat.{range_of, numbered_after}
 
 -- ---- how many
@@ -14,7 +17,8 @@ front_most (suc n) [] = omega arith
 front_most (suc n) (w ∷ ws) = omega (arith, front_most n ws)
 
 -- a range has at most as many writes as it covers
-pub range_fit : (journal : List Write) (family from to : ℕ) → from ≤ to → from + length (range_of journal family from to) ≤ to
+pub range_fit : (journal : List Write) (family from to : ℕ) → from ≤ to
+    → from + length (range_of journal family from to) ≤ to
 range_fit journal family from to le =
     let ws = of_family family journal in
     let h = front_most to ws in
@@ -57,17 +61,50 @@ part_front (w ∷ ws) (suc a) (suc m) (suc b) p q =
     ap (λ (n : ℕ). take n (drop a (take b ws))) e ∙ part_front ws a m b (omega arith) (omega arith)
 
 -- the writes of a range up to a cut inside it
-pub range_front : (journal : List Write) (family from cut to : ℕ) → from ≤ cut → cut ≤ to → take (cut - from) (range_of journal family from to) ≡ range_of journal family from cut
+pub range_front : (journal : List Write) (family from cut to : ℕ) → from ≤ cut → cut ≤ to
+    → take (cut - from) (range_of journal family from to) ≡ range_of journal family from cut
 range_front journal family from cut to p q =
     let ws = of_family family journal in
     take-map row_of (cut - from) (drop from (take to ws)) ∙ ap (map row_of) (part_front ws from cut to p q)
 
 -- and up to one behind it
-pub range_whole : (journal : List Write) (family from cut to : ℕ) → from ≤ to → to ≤ cut → take (cut - from) (range_of journal family from to) ≡ range_of journal family from to
+pub range_whole : (journal : List Write) (family from cut to : ℕ) → from ≤ to → to ≤ cut
+    → take (cut - from) (range_of journal family from to) ≡ range_of journal family from to
 range_whole journal family from cut to p q = take_all (cut - from) (range_of journal family from to) (omega (arith, range_fit journal family from to p))
 
 no_part : (m b : ℕ) → rows_of (drop m (take b nothing)) ≡ []
 no_part m b = ap rows_of (part_none m b)
+
+parts_join : (ws : List Write) (a m b : ℕ) → a ≤ m → m ≤ b
+    → drop a (take m ws) ++ drop m (take b ws) ≡ drop a (take b ws)
+parts_join [] a m b p q = (λ i. part_none a m i ++ part_none m b i) ∙ sym (part_none a b)
+parts_join (w ∷ ws) zero zero b p q = refl
+parts_join (w ∷ ws) zero (suc m) zero p q = absurd (omega arith)
+parts_join (w ∷ ws) zero (suc m) (suc b) p q = ap (λ (l : List Write). w ∷ l) (parts_join ws zero m b (omega arith) (omega arith))
+parts_join (w ∷ ws) (suc a) zero b p q = absurd (omega arith)
+parts_join (w ∷ ws) (suc a) (suc m) zero p q = absurd (omega arith)
+parts_join (w ∷ ws) (suc a) (suc m) (suc b) p q = parts_join ws a m b (omega arith) (omega arith)
+
+-- ranges join
+pub ranges_join : (journal : List Write) (family from mid to : ℕ) → from ≤ mid → mid ≤ to
+    → range_of journal family from mid ++ range_of journal family mid to ≡ range_of journal family from to
+ranges_join journal family from mid to p q =
+    let ws = of_family family journal in
+    sym (map-append row_of (drop from (take mid ws)) (drop mid (take to ws))) ∙ ap (map row_of) (parts_join ws from mid to p q)
+
+-- the newest of older and newer writes is that of the newer ones, if they have one
+pub newest_row_append : (key : List ℕ) (old new : List Row)
+    → newest_row key (old ++ new) ≡ option_or (newest_row key new) (newest_row key old)
+newest_row_append key old new = ap (find (λ r. same_key key r.key)) (reverse-append old new) ∙ find-append (λ r. same_key key r.key) (reverse new) (reverse old)
+
+pub newest_op_append : (key : List ℕ) (old new : List Row)
+    → newest_op key (old ++ new) ≡ option_or (newest_op key new) (newest_op key old)
+newest_op_append key old new = ap (option_map (λ (r : Row). r.op)) (newest_row_append key old new) ∙ by_op (newest_row key new) (newest_row key old)
+  where
+    by_op : (a b : Option Row)
+        → option_map (λ r. r.op) (option_or a b) ≡ option_or (option_map (λ r. r.op) a) (option_map (λ r. r.op) b)
+    by_op None b = refl
+    by_op (Some row) b = refl
 
 -- ---- numbers
 

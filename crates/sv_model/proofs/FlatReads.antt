@@ -25,14 +25,16 @@ pub find_filter : {A : Type 0} (p q : A → Bool) (xs : List A) → find (λ x. 
 find_filter p q [] = refl
 find_filter {A} p q (x ∷ xs) = at (p x) (find_filter p q xs)
   where
-    at : (b : Bool) → find (λ y. p y && q y) xs ≡ find q (filter p xs) → cond (b && q x) (Some x) (find (λ y. p y && q y) xs) ≡ find q (cond b (x ∷ filter p xs) (filter p xs))
+    at : (b : Bool) → find (λ y. p y && q y) xs ≡ find q (filter p xs)
+        → cond (b && q x) (Some x) (find (λ y. p y && q y) xs) ≡ find q (cond b (x ∷ filter p xs) (filter p xs))
     at true h = ap (cond (q x) (Some x)) h
     at false h = h
 
-abbrev within : ℕ → Kept → Bool
+abbrev pub within : ℕ → Kept → Bool
 within cut r = nat_le r.end cut
 
-pub upto_of_key : (key : List ℕ) (cut : ℕ) (rows : List Kept) → first_upto key_of_kept end_of_kept key cut rows ≡ find (within cut) (of_key key rows)
+pub upto_of_key : (key : List ℕ) (cut : ℕ) (rows : List Kept)
+    → first_upto key_of_kept end_of_kept key cut rows ≡ find (within cut) (of_key key rows)
 upto_of_key key cut rows = find_filter (λ r. same_key key r.row.key) (within cut) rows
 
 -- ---- deletes below which nothing stays
@@ -45,11 +47,13 @@ empty_is [] e = refl
 empty_is (r ∷ rows) e = absurd (cc e)
 
 -- what was left out are deletes at the old end
-pub deletes_left : (rows : List Kept) → (left : List Kept) × (rows ≡ without_last_deletes rows ++ left) × AllDeletes left
+pub deletes_left : (rows : List Kept)
+    → (left : List Kept) × (rows ≡ without_last_deletes rows ++ left) × AllDeletes left
 deletes_left [] = ([], refl, tt)
 deletes_left (r ∷ rows) = at (is_delete r.row.op && is_empty (without_last_deletes rows)) refl (deletes_left rows)
   where
-    at : (b : Bool) → (is_delete r.row.op && is_empty (without_last_deletes rows)) ≡ b → (left : List Kept) × (rows ≡ without_last_deletes rows ++ left) × AllDeletes left
+    at : (b : Bool) → (is_delete r.row.op && is_empty (without_last_deletes rows)) ≡ b
+        → (left : List Kept) × (rows ≡ without_last_deletes rows ++ left) × AllDeletes left
         → (left : List Kept) × (r ∷ rows ≡ cond b [] (r ∷ without_last_deletes rows) ++ left) × AllDeletes left
     at true e rest =
         let parts = and_parts (is_delete r.row.op) (is_empty (without_last_deletes rows)) e in
@@ -80,14 +84,16 @@ or_value : (a b : Option Kept) → value_at b ≡ None → value_at (option_or a
 or_value (Some r) b h = refl
 or_value None b h = h
 
-pub without_value : (p : Kept → Bool) (rows : List Kept) → value_at (find p (without_last_deletes rows)) ≡ value_at (find p rows)
+pub without_value : (p : Kept → Bool) (rows : List Kept)
+    → value_at (find p (without_last_deletes rows)) ≡ value_at (find p rows)
 without_value p rows =
     let split = deletes_left rows in
     sym (ap (λ (l : List Kept). value_at (find p l)) split.1
     ∙ ap value_at (find-append p (without_last_deletes rows) split.0)
     ∙ or_value (find p (without_last_deletes rows)) (find p split.0) (deletes_value p split.0 split.2))
 
-pub stays_value : (last : Bool) (p : Kept → Bool) (rows : List Kept) → value_at (find p (stays last rows)) ≡ value_at (find p rows)
+pub stays_value : (last : Bool) (p : Kept → Bool) (rows : List Kept)
+    → value_at (find p (stays last rows)) ≡ value_at (find p rows)
 stays_value true p rows = without_value p rows
 stays_value false p rows = refl
 
@@ -102,11 +108,13 @@ again_above : (last : Option ℕ) (e cut : ℕ) → Above last cut → is_last l
 again_above None e cut above same = absurd (cc same)
 again_above (Some l) e cut above same = lt-leb e cut (let is = eqb-true e l same in omega (arith, is, above))
 
-pub firsts_within : (cut : ℕ) (last : Option ℕ) (rows : List Kept) → Above last cut → find (within cut) (firsts last rows) ≡ find (within cut) rows
+pub firsts_within : (cut : ℕ) (last : Option ℕ) (rows : List Kept) → Above last cut
+    → find (within cut) (firsts last rows) ≡ find (within cut) rows
 firsts_within cut last [] above = refl
 firsts_within cut last (r ∷ rows) above = at (is_last last r.end) refl (nat_le r.end cut) refl (firsts_within cut last rows above) (λ more. firsts_within cut (Some r.end) rows more)
   where
-    at : (again : Bool) → is_last last r.end ≡ again → (low : Bool) → nat_le r.end cut ≡ low → find (within cut) (firsts last rows) ≡ find (within cut) rows
+    at : (again : Bool) → is_last last r.end ≡ again → (low : Bool) → nat_le r.end cut ≡ low
+        → find (within cut) (firsts last rows) ≡ find (within cut) rows
         → (cut < r.end → find (within cut) (firsts (Some r.end) rows) ≡ find (within cut) rows)
         → find (within cut) (cond again (firsts last rows) (r ∷ firsts (Some r.end) rows)) ≡ cond low (Some r) (find (within cut) rows)
     at true e low is skip next = skip ∙ ap (λ (b : Bool). cond b (Some r) (find (within cut) rows)) (sym (again_above last r.end cut above e) ∙ is)
@@ -119,13 +127,15 @@ abbrev pub upto : List ℕ → ℕ → Numbered → Bool
 upto key cut n = same_key key n.row.key && nat_le n.number cut
 
 module _ (from to : ℕ) (cuts : List ℕ) (are : CutsFrom from cuts to) (cut : ℕ) (clear : IsClearIn from to cuts cut) (key : List ℕ) where
-  marks_within : (high : ℕ) (writes : List Numbered) → high ≤ to → NumbersFall from high writes → find (within cut) (marks (ends_of cuts to) key writes) ≡ option_map (mark (ends_of cuts to)) (find (upto key cut) writes)
+  marks_within : (high : ℕ) (writes : List Numbered) → high ≤ to → NumbersFall from high writes
+      → find (within cut) (marks (ends_of cuts to) key writes) ≡ option_map (mark (ends_of cuts to)) (find (upto key cut) writes)
   marks_within high [] most fall = refl
   marks_within high (n ∷ writes) most fall =
       let le : n.number ≤ to = omega (arith, fall.0) in
       at (has_key key n) (clear_same from to cuts are cut n.number clear fall.1 le) (nat_le n.number cut) refl (marks_within n.number writes le fall.2)
     where
-      at : (same : Bool) → nat_le (end_at (ends_of cuts to) n.number) cut ≡ nat_le n.number cut → (low : Bool) → nat_le n.number cut ≡ low
+      at : (same : Bool) → nat_le (end_at (ends_of cuts to) n.number) cut ≡ nat_le n.number cut → (low : Bool)
+          → nat_le n.number cut ≡ low
           → find (within cut) (marks (ends_of cuts to) key writes) ≡ option_map (mark (ends_of cuts to)) (find (upto key cut) writes)
           → find (within cut) (map (mark (ends_of cuts to)) (cond same (n ∷ filter (has_key key) writes) (filter (has_key key) writes))) ≡ option_map (mark (ends_of cuts to)) (cond (same && nat_le n.number cut) (Some n) (find (upto key cut) writes))
       at false e low is ih = ih
@@ -147,7 +157,8 @@ or_row : (a b : Option Numbered) → row_at (option_or a b) ≡ option_or (row_a
 or_row None b = refl
 or_row (Some n) b = refl
 
-none_upto : (key : List ℕ) (cut before : ℕ) (writes : List Row) → cut ≤ before → find (upto key cut) (reverse (numbered_after before writes)) ≡ None
+none_upto : (key : List ℕ) (cut before : ℕ) (writes : List Row) → cut ≤ before
+    → find (upto key cut) (reverse (numbered_after before writes)) ≡ None
 none_upto key cut before [] le = refl
 none_upto key cut before (w ∷ writes) le =
     let n : Numbered = record { number = suc before; row = w } in
@@ -160,7 +171,8 @@ none_upto key cut before (w ∷ writes) le =
     and-false true = refl
     and-false false = refl
 
-newest_cons : (key : List ℕ) (w : Row) (writes : List Row) → newest_row key (w ∷ writes) ≡ option_or (newest_row key writes) (cond (same_key key w.key) (Some w) None)
+newest_cons : (key : List ℕ) (w : Row) (writes : List Row)
+    → newest_row key (w ∷ writes) ≡ option_or (newest_row key writes) (cond (same_key key w.key) (Some w) None)
 newest_cons key w writes =
     ap (find (λ r. same_key key r.key)) (reverse-append (w ∷ []) writes) ∙ find-append (λ r. same_key key r.key) (reverse writes) (w ∷ [])
 
@@ -172,7 +184,8 @@ take_none zero = refl
 take_none (suc n) = refl
 
 -- the newest of the writes whose number does not pass the cut
-pub newest_upto : (key : List ℕ) (cut before : ℕ) (writes : List Row) → row_at (find (upto key cut) (reverse (numbered_after before writes))) ≡ newest_row key (take (cut - before) writes)
+pub newest_upto : (key : List ℕ) (cut before : ℕ) (writes : List Row)
+    → row_at (find (upto key cut) (reverse (numbered_after before writes))) ≡ newest_row key (take (cut - before) writes)
 newest_upto key cut before [] = ap (newest_row key) (sym (take_none (cut - before)))
 newest_upto key cut before (w ∷ writes) = elim (cases_Bool (nat_le (suc before) cut)) [
   | inl low ↦
@@ -196,7 +209,8 @@ newest_upto key cut before (w ∷ writes) = elim (cases_Bool (nat_le (suc before
     one true n = refl
     one false n = refl
 
-op_marked : (ends : List ℕ) (found : Option Numbered) → op_at (option_map (mark ends) found) ≡ option_map (λ r. r.op) (row_at found)
+op_marked : (ends : List ℕ) (found : Option Numbered)
+    → op_at (option_map (mark ends) found) ≡ option_map (λ r. r.op) (row_at found)
 op_marked ends None = refl
 op_marked ends (Some n) = refl
 
@@ -223,7 +237,8 @@ module _ (from to : ℕ) (bottom : Bottom) (writes : List Row) (rows : List Kept
       ∙ ap (option_and_then value_of) found_newest
 
   -- where something may lie below, the op itself is the newest
-  pub flat_op : bottom.last ≡ false → op_at (first_upto key_of_kept end_of_kept key cut rows) ≡ newest_op key (take (cut - from) writes)
+  pub flat_op : bottom.last ≡ false
+      → op_at (first_upto key_of_kept end_of_kept key cut rows) ≡ newest_op key (take (cut - from) writes)
   flat_op plain =
       ap op_at found_row
       ∙ ap (λ (b : Bool). op_at (find (within cut) (stays b (newest_each (ends_of bottom.cuts to) (numbered_after from writes) key)))) plain

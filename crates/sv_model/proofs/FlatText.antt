@@ -1,6 +1,6 @@
 -- A flat is well formed, so that it has a text.
 use Rattle.std.proofs.Common.{◌≡◌, ℕ, ◌<◌, ◌≤◌, ◌+◌, ◌-◌, ◌^◌, inl, inr, Bool, true, false, cond, not, ◌&&◌, ◌||◌, nat_le, List, [], ◌∷◌, length, refl, sym, ap, subst, ◌∙◌, arith}
-use Rattle.std.proofs.lemmas.Bool.{cases_Bool, le-leb, or_left, and_from, both_ways}
+use Rattle.std.proofs.lemmas.Bool.{cases_Bool, le-leb, or_left}
 use Rattle.sv_model.specs.declared.writes.Row.{Row}
 use Rattle.sv_model.specs.declared.writes.Kept.{Kept}
 use Rattle.sv_model.specs.declared.cuts.Bottom.{Bottom}
@@ -24,7 +24,8 @@ pub without_ends : (rows : List Kept) → EndsInPut (without_last_deletes rows)
 without_ends [] = tt
 without_ends (r ∷ rows) = at (is_delete r.row.op) refl (without_last_deletes rows) (without_ends rows)
   where
-    at : (b : Bool) → is_delete r.row.op ≡ b → (left : List Kept) → EndsInPut left → EndsInPut (cond (b && is_empty left) [] (r ∷ left))
+    at : (b : Bool) → is_delete r.row.op ≡ b → (left : List Kept) → EndsInPut left
+        → EndsInPut (cond (b && is_empty left) [] (r ∷ left))
     at true e [] h = tt
     at true e (x ∷ left) h = h
     at false e [] h = e
@@ -42,7 +43,8 @@ or_right : (x y : Bool) → y ≡ true → (x || y) ≡ true
 or_right true y h = refl
 or_right false y h = h
 
-cover : (r : Kept) (rows : List Kept) → RisesFrom key_of_kept r rows → EndsInPut (of_key r.row.key (r ∷ rows)) → covers r rows ≡ true
+cover : (r : Kept) (rows : List Kept) → RisesFrom key_of_kept r rows → EndsInPut (of_key r.row.key (r ∷ rows))
+    → covers r rows ≡ true
 cover r [] up h = ap not (subst EndsInPut (key_own r []) h)
 cover r (x ∷ rows) up h = elim (cases_Bool (same_key r.row.key x.row.key)) [
   | inl same ↦ or_right (not (is_delete r.row.op)) (same_key r.row.key x.row.key) same
@@ -52,12 +54,14 @@ cover r (x ∷ rows) up h = elim (cases_Bool (same_key r.row.key x.row.key)) [
       or_left (not (is_delete r.row.op)) (same_key r.row.key x.row.key) (ap not put)
 ]
 
-pub deletes_cover : (rows : List Kept) → RisesBy key_of_kept rows → ((key : List ℕ) → EndsInPut (of_key key rows)) → DeletesCover rows
+pub deletes_cover : (rows : List Kept) → RisesBy key_of_kept rows → ((key : List ℕ) → EndsInPut (of_key key rows))
+    → DeletesCover rows
 deletes_cover [] up each = tt
 deletes_cover (r ∷ rows) up each =
     (cover r rows up (each r.row.key), deletes_cover rows (rises_rest r rows up) (λ key. ends_cond (same_key key r.row.key) r (of_key key rows) (each key)))
 
-pub stays_cover : (last : Bool) (rows : List Kept) (kept : List ℕ → List Kept) → RisesBy key_of_kept rows → ((key : List ℕ) → of_key key rows ≡ stays last (kept key)) → last ≡ true → DeletesCover rows
+pub stays_cover : (last : Bool) (rows : List Kept) (kept : List ℕ → List Kept) → RisesBy key_of_kept rows
+    → ((key : List ℕ) → of_key key rows ≡ stays last (kept key)) → last ≡ true → DeletesCover rows
 stays_cover last rows kept up is e =
     deletes_cover rows up (λ key. subst EndsInPut (sym (is key ∙ ap (λ (b : Bool). stays b (kept key)) e)) (without_ends (kept key)))
 
@@ -67,7 +71,9 @@ least false n h = le-leb 1 n (h refl)
 
 -- ---- flats
 
-pub flat_well_formed : (from to : ℕ) (bottom : Bottom) (writes : List Row) (rows : List Kept) → AreCuts from to bottom.cuts → from + length writes ≡ to → from < to → to - from < 2 ^ 32 → IsFlatOf from to bottom writes rows → IsWellFormed from to bottom rows
+pub flat_well_formed : (from to : ℕ) (bottom : Bottom) (writes : List Row) (rows : List Kept)
+    → AreCuts from to bottom.cuts → from + length writes ≡ to → from < to → to - from < 2 ^ 32
+    → IsFlatOf from to bottom writes rows → IsWellFormed from to bottom rows
 flat_well_formed from to bottom writes rows are full some few flat =
     let most = flat_few from to bottom writes rows are (omega arith) flat in
     record {

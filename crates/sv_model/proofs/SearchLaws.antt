@@ -21,7 +21,8 @@ ahead_equal a b t e = ap (λ (s : Bool). s || (same_key b a && t)) (ap is_lt e) 
 not_equal : (a b : List ℕ) → slice_cmp nat_cmp a b ≡ Greater → b ≡ a → ⊥
 not_equal a b e same = both_ways (same_key a b) (ap is_eq e) (same_yes a b (sym same))
 
-pub ahead_greater : (a b : List ℕ) (t : Bool) → slice_cmp nat_cmp a b ≡ Greater → (is_below a b || (same_key b a && t)) ≡ false
+pub ahead_greater : (a b : List ℕ) (t : Bool) → slice_cmp nat_cmp a b ≡ Greater
+    → (is_below a b || (same_key b a && t)) ≡ false
 ahead_greater a b t e = ap (λ (s : Bool). s || (same_key b a && t)) (ap is_lt e) ∙ ap (λ (s : Bool). s && t) (same_no b a (not_equal a b e))
 
 -- ---- the front
@@ -33,7 +34,8 @@ module _ {A : Type 0} (key : A → List ℕ) (rank : A → ℕ) where
   abbrev ahead : List ℕ → ℕ → A → Bool
   ahead wanted upto x = is_ahead key rank wanted upto x
 
-  from_below : (wanted : List ℕ) (upto : ℕ) (a b : A) → is_below (key a) (key b) ≡ true → ahead wanted upto b ≡ true → ahead wanted upto a ≡ true
+  from_below : (wanted : List ℕ) (upto : ℕ) (a b : A) → is_below (key a) (key b) ≡ true → ahead wanted upto b ≡ true
+      → ahead wanted upto a ≡ true
   from_below wanted upto a b below h = or_left (is_below (key a) wanted) (same_key wanted (key a) && nat_lt upto (rank a)) (
       elim (or_cases (is_below (key b) wanted) (same_key wanted (key b) && nat_lt upto (rank b)) h) [
         | inl low ↦ below_trans (key a) (key b) wanted below low
@@ -43,7 +45,8 @@ module _ {A : Type 0} (key : A → List ℕ) (rank : A → ℕ) where
   lower : (upto a b : ℕ) → nat_lt b a ≡ true → nat_lt upto b ≡ true → nat_lt upto a ≡ true
   lower upto a b p q = let x = ltb-true b a p in let y = ltb-true upto b q in lt-ltb upto a (omega arith)
 
-  from_same : (wanted : List ℕ) (upto : ℕ) (a b : A) → key a ≡ key b → nat_lt (rank b) (rank a) ≡ true → ahead wanted upto b ≡ true → ahead wanted upto a ≡ true
+  from_same : (wanted : List ℕ) (upto : ℕ) (a b : A) → key a ≡ key b → nat_lt (rank b) (rank a) ≡ true
+      → ahead wanted upto b ≡ true → ahead wanted upto a ≡ true
   from_same wanted upto a b e less h =
       elim (or_cases (is_below (key b) wanted) (same_key wanted (key b) && nat_lt upto (rank b)) h) [
         | inl low ↦ or_left (is_below (key a) wanted) (same_key wanted (key a) && nat_lt upto (rank a)) (subst (λ (k : List ℕ). is_below k wanted ≡ true) (sym e) low)
@@ -58,7 +61,8 @@ module _ {A : Type 0} (key : A → List ℕ) (rank : A → ℕ) where
       or_from_right false y h = h
 
   -- what stands before an item that is ahead is ahead too
-  before_ahead : (wanted : List ℕ) (upto : ℕ) (a b : A) → before a b ≡ true → ahead wanted upto b ≡ true → ahead wanted upto a ≡ true
+  before_ahead : (wanted : List ℕ) (upto : ℕ) (a b : A) → before a b ≡ true → ahead wanted upto b ≡ true
+      → ahead wanted upto a ≡ true
   before_ahead wanted upto a b h there =
       elim (or_cases (is_below (key a) (key b)) (same_key (key a) (key b) && nat_lt (rank b) (rank a)) h) [
         | inl low ↦ from_below wanted upto a b low there
@@ -67,7 +71,8 @@ module _ {A : Type 0} (key : A → List ℕ) (rank : A → ℕ) where
             from_same wanted upto a b (same_eq (key a) (key b) parts.0) parts.1 there
       ]
 
-  from_ahead : (wanted : List ℕ) (upto : ℕ) (last : A) (xs : List A) → OrderedFrom key rank last xs → (j : ℕ) (d : A) → j < length xs → ahead wanted upto (get_or xs j d) ≡ true → ahead wanted upto last ≡ true
+  from_ahead : (wanted : List ℕ) (upto : ℕ) (last : A) (xs : List A) → OrderedFrom key rank last xs → (j : ℕ) (d : A)
+      → j < length xs → ahead wanted upto (get_or xs j d) ≡ true → ahead wanted upto last ≡ true
   from_ahead wanted upto last [] up j d lt h = absurd (omega arith)
   from_ahead wanted upto last (x ∷ xs) up zero d lt h = before_ahead wanted upto last x up.0 h
   from_ahead wanted upto last (x ∷ xs) up (suc j) d lt h = before_ahead wanted upto last x up.0 (from_ahead wanted upto x xs up.1 j d (omega arith) h)
@@ -76,7 +81,8 @@ module _ {A : Type 0} (key : A → List ℕ) (rank : A → ℕ) where
   ordered_rest x [] up = tt
   ordered_rest x (y ∷ xs) up = up.1
 
-  pub parted : (wanted : List ℕ) (upto : ℕ) (xs : List A) → OrderedBy key rank xs → IsPartitionedBy (ahead wanted upto) xs
+  pub parted : (wanted : List ℕ) (upto : ℕ) (xs : List A) → OrderedBy key rank xs
+      → IsPartitionedBy (ahead wanted upto) xs
   parted wanted upto [] up i j d le lt h = absurd (omega arith)
   parted wanted upto (x ∷ xs) up zero zero d le lt h = h
   parted wanted upto (x ∷ xs) up zero (suc j) d le lt h = from_ahead wanted upto x xs up j d (omega arith) h
@@ -88,7 +94,8 @@ module _ {A : Type 0} (key : A → List ℕ) (rank : A → ℕ) where
   abbrev wants : List ℕ → ℕ → A → Bool
   wants wanted upto x = same_key wanted (key x) && nat_le (rank x) upto
 
-  missed : (wanted : List ℕ) (upto : ℕ) (x : A) (xs : List A) → wants wanted upto x ≡ false → first_upto key rank wanted upto (x ∷ xs) ≡ first_upto key rank wanted upto xs
+  missed : (wanted : List ℕ) (upto : ℕ) (x : A) (xs : List A) → wants wanted upto x ≡ false
+      → first_upto key rank wanted upto (x ∷ xs) ≡ first_upto key rank wanted upto xs
   missed wanted upto x xs e = ap (λ (b : Bool). cond b (Some x) (first_upto key rank wanted upto xs)) e
 
   ahead_other : (wanted : List ℕ) (upto : ℕ) (x : A) → ahead wanted upto x ≡ true → wants wanted upto x ≡ false
@@ -98,13 +105,16 @@ module _ {A : Type 0} (key : A → List ℕ) (rank : A → ℕ) where
         | inr both ↦ and_right (same_key wanted (key x)) (nat_le (rank x) upto) (lt-leb (rank x) upto (ltb-true upto (rank x) (and_parts (same_key wanted (key x)) (nat_lt upto (rank x)) both).1))
       ]
 
-  not_ahead : (wanted : List ℕ) (upto : ℕ) (x : A) → ahead wanted upto x ≡ false → same_key wanted (key x) ≡ true → wants wanted upto x ≡ true
+  not_ahead : (wanted : List ℕ) (upto : ℕ) (x : A) → ahead wanted upto x ≡ false → same_key wanted (key x) ≡ true
+      → wants wanted upto x ≡ true
   not_ahead wanted upto x h same =
       let apart = (or_parts (is_below (key x) wanted) (same_key wanted (key x) && nat_lt upto (rank x)) h).1 in
       let more : nat_lt upto (rank x) ≡ false = sym (ap (λ (b : Bool). b && nat_lt upto (rank x)) same) ∙ apart in
       and_from (same_key wanted (key x)) (nat_le (rank x) upto) same (le-leb (rank x) upto (ltb-false upto (rank x) more))
 
-  pub found : (wanted : List ℕ) (upto : ℕ) (xs : List A) (at : ℕ) (d : A) → at < length xs → ((k : ℕ) (e : A) → k < at → ahead wanted upto (get_or xs k e) ≡ true) → ahead wanted upto (get_or xs at d) ≡ false → same_key wanted (key (get_or xs at d)) ≡ true
+  pub found : (wanted : List ℕ) (upto : ℕ) (xs : List A) (at : ℕ) (d : A) → at < length xs
+      → ((k : ℕ) (e : A) → k < at → ahead wanted upto (get_or xs k e) ≡ true)
+      → ahead wanted upto (get_or xs at d) ≡ false → same_key wanted (key (get_or xs at d)) ≡ true
       → first_upto key rank wanted upto xs ≡ Some (get_or xs at d)
   found wanted upto [] at d lt front here same = absurd (omega arith)
   found wanted upto (x ∷ xs) zero d lt front here same = ap (λ (b : Bool). cond b (Some x) (first_upto key rank wanted upto xs)) (not_ahead wanted upto x here same)
@@ -112,21 +122,25 @@ module _ {A : Type 0} (key : A → List ℕ) (rank : A → ℕ) where
       missed wanted upto x xs (ahead_other wanted upto x (front 0 x (omega arith)))
       ∙ found wanted upto xs at d (omega arith) (λ k e lt. front (suc k) e (omega arith)) here same
 
-  higher : (wanted : List ℕ) (x y : A) → is_below wanted (key x) ≡ true → before x y ≡ true → is_below wanted (key y) ≡ true
+  higher : (wanted : List ℕ) (x y : A) → is_below wanted (key x) ≡ true → before x y ≡ true
+      → is_below wanted (key y) ≡ true
   higher wanted x y high h =
       elim (or_cases (is_below (key x) (key y)) (same_key (key x) (key y) && nat_lt (rank y) (rank x)) h) [
         | inl low ↦ below_trans wanted (key x) (key y) high low
         | inr both ↦ subst (λ (k : List ℕ). is_below wanted k ≡ true) (same_eq (key x) (key y) (and_parts (same_key (key x) (key y)) (nat_lt (rank y) (rank x)) both).0) high
       ]
 
-  none_after : (wanted : List ℕ) (upto : ℕ) (x : A) (xs : List A) → is_below wanted (key x) ≡ true → OrderedFrom key rank x xs → first_upto key rank wanted upto xs ≡ None
+  none_after : (wanted : List ℕ) (upto : ℕ) (x : A) (xs : List A) → is_below wanted (key x) ≡ true
+      → OrderedFrom key rank x xs → first_upto key rank wanted upto xs ≡ None
   none_after wanted upto x [] high up = refl
   none_after wanted upto x (y ∷ xs) high up =
       let next = higher wanted x y high up.0 in
       missed wanted upto y xs (and_left (same_key wanted (key y)) (nat_le (rank y) upto) (same_no wanted (key y) (below_other wanted (key y) next)))
       ∙ none_after wanted upto y xs next up.1
 
-  pub found_other : (wanted : List ℕ) (upto : ℕ) (xs : List A) (at : ℕ) (d : A) → OrderedBy key rank xs → at < length xs → ((k : ℕ) (e : A) → k < at → ahead wanted upto (get_or xs k e) ≡ true) → ahead wanted upto (get_or xs at d) ≡ false → same_key wanted (key (get_or xs at d)) ≡ false
+  pub found_other : (wanted : List ℕ) (upto : ℕ) (xs : List A) (at : ℕ) (d : A) → OrderedBy key rank xs
+      → at < length xs → ((k : ℕ) (e : A) → k < at → ahead wanted upto (get_or xs k e) ≡ true)
+      → ahead wanted upto (get_or xs at d) ≡ false → same_key wanted (key (get_or xs at d)) ≡ false
       → first_upto key rank wanted upto xs ≡ None
   found_other wanted upto [] at d up lt front here other = absurd (omega arith)
   found_other wanted upto (x ∷ xs) zero d up lt front here other =
@@ -136,7 +150,9 @@ module _ {A : Type 0} (key : A → List ℕ) (rank : A → ℕ) where
       missed wanted upto x xs (ahead_other wanted upto x (front 0 x (omega arith)))
       ∙ found_other wanted upto xs at d (ordered_rest x xs up) (omega arith) (λ k e lt. front (suc k) e (omega arith)) here other
 
-  pub found_past : (wanted : List ℕ) (upto : ℕ) (xs : List A) → ((k : ℕ) (e : A) → k < length xs → ahead wanted upto (get_or xs k e) ≡ true) → first_upto key rank wanted upto xs ≡ None
+  pub found_past : (wanted : List ℕ) (upto : ℕ) (xs : List A)
+      → ((k : ℕ) (e : A) → k < length xs → ahead wanted upto (get_or xs k e) ≡ true)
+      → first_upto key rank wanted upto xs ≡ None
   found_past wanted upto [] front = refl
   found_past wanted upto (x ∷ xs) front =
       missed wanted upto x xs (ahead_other wanted upto x (front 0 x (omega arith)))

@@ -6,7 +6,7 @@ use Rattle.sv_model.specs.declared.MemtableList.{MemtableList}
 use Rattle.sv_model.specs.declared.Write.{Write}
 use Rattle.sv_model.specs.After.{KeepsSuper, KeepsMemtable, KeepsList, KeepsVersion, KeepsNumber}
 use Rattle.sv_model.specs.Lists.{In}
-use Rattle.sv_model.specs.Named.{HasMember}
+use Rattle.sv_model.specs.Named.{HasMember, IsLiveMemtable}
 use Rattle.sv_model.specs.Registers.{entry, change, GoesOn}
 use Rattle.sv_model.specs.Books.{Books}
 use Rattle.sv_model.proofs.Registers.{entry_change, goes-same, goes-change, goes-on, length-change}
@@ -45,12 +45,12 @@ all_gone live l new ended n h at is ends k x found =
 
 -- each member of the list is a memtable that is not Gone
 pub member_lives : (memtables : List Memtable) (journal : List Write) (above from : ℕ) (members : List ℕ) (its : List Immutable) (to : ℕ) → ImmutablesJoin memtables journal above from members its to
-    → (i m : ℕ) → slice_get members i ≡ Some m → cells.IsLiveMemtable memtables m
+    → (i m : ℕ) → slice_get members i ≡ Some m → IsLiveMemtable memtables m
 member_lives memtables journal above from [] its to h i m e = absurd (cc)
 member_lives memtables journal above from (x ∷ members) [] to h i m e = absurd h
 member_lives memtables journal above from (x ∷ members) (it ∷ its) to h zero m e =
     let same : x ≡ m = cc in
-    subst (λ k. cells.IsLiveMemtable memtables k) same (record { it = _; at = h.2.at; live = refl })
+    subst (λ k. IsLiveMemtable memtables k) same (record { it = _; at = h.2.at; live = refl })
 member_lives memtables journal above from (x ∷ members) (it ∷ its) to h (suc i) m e = member_lives memtables journal x it.to members its to h.3 i m e
 
 -- what the calls gave
@@ -95,7 +95,7 @@ active_out b reach base serial place list version active its new_lists given s r
     omega (arith, below, e)
 
 pub active_lives : (b : Books) (reach base serial place list version : ℕ) (active : Cell) (its : List Immutable) (new_lists : List MemtableList) (given : List ℕ) (mid : List Memtable) (s : Stands b reach base serial place list version active its) → lists.IsReleased b.lists list new_lists given → AreEnded b.memtables given mid
-    → cells.IsLiveMemtable mid active.id
+    → IsLiveMemtable mid active.id
 active_lives b reach base serial place list version active its new_lists given mid s released ended = record {
   it = record { family = 0; first = base; cell = s.cell; live = true };
   at = ended.kept active.id (active_out b reach base serial place list version active its new_lists given s released) ∙ ap (entry b.memtables) s.active_id ∙ s.active_at;

@@ -2,13 +2,14 @@
 use Rattle.std.proofs.Common.{◌≡◌, ◌<◌, ◌≤◌, ◌⊎◌, inl, inr, ℕ, zero, suc, true, false, cond, List, [], ◌∷◌, ◌++◌, Some, length, take, slice_get, refl, sym, ◌∙◌, ap, subst, arith}
 use Rattle.std.proofs.lemmas.List.{length_push}
 use Rattle.sv_model.specs.declared.Memtable.{Memtable}
+use Rattle.sv_model.specs.Named.{IsLiveMemtable, memtable_live}
 use Rattle.sv_model.specs.After.{KeepsMemtable}
 use Rattle.sv_model.specs.Lists.{In, Distinct, times}
-use Rattle.sv_model.specs.Places.{live_count, memtable_live}
+use Rattle.sv_model.specs.Places.{live_count}
 use Rattle.sv_model.specs.Registers.{entry, change, GoesOn}
 use Rattle.sv_model.proofs.Lists.{times_in, in_times}
 use Rattle.sv_model.proofs.Registers.{entry-old, entry-new, entry_push, entry-same, entry-else, entry_le, length-change, total-change}
-use Rattle.sv_cells.specs.Calls.{IsEnded, IsLiveMemtable}
+use Rattle.sv_cells.specs.Calls.{IsEnded}
 use Rattle.sv_plain.specs.Ended.{AreEnded}
 use Rattle.sv_plain.proofs.Going.{memtable_itself}
 

@@ -62,10 +62,10 @@ left_gone numbers new from m left h mark =
     still : (n : ℕ) → m + 1 ≤ n → IsRegistered numbers n Obsolete → IsRegistered new n Obsolete
     still n lt r =
         let apart : r.0 ≢ mark.at = λ e. (
-            let same : Some r.1 ≡ Some mark.it = sym r.2 ∙ ap (entry numbers) e ∙ mark.found in
-            let it : r.1 ≡ mark.it = cc in
-            let number = sym r.3.number_is ∙ ap (λ (x : RegisteredFile). x.number) it ∙ mark.had.number_is in
-            omega (arith, number, lt)) in
+        let same : Some r.1 ≡ Some mark.it = sym r.2 ∙ ap (entry numbers) e ∙ mark.found in
+        let it : r.1 ≡ mark.it = cc in
+        let number = sym r.3.number_is ∙ ap (λ (x : RegisteredFile). x.number) it ∙ mark.had.number_is in
+        omega (arith, number, lt)) in
         (r.0, r.1, ap (λ l. entry l r.0) mark.marked ∙ entry-else numbers mark.at r.0 gone apart ∙ r.2, r.3)
 
     was : (n : ℕ) → IsRegistered new n Obsolete → IsRegistered numbers n Obsolete

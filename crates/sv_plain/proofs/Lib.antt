@@ -9,12 +9,14 @@ pub mod Appending
 pub mod Refused
 pub mod Looking
 pub mod FileRanges
+pub mod FileReads
 pub mod Standing
 pub mod OutputTables
 pub mod Ending
 pub mod Planning
 pub mod Closing
 pub mod Emptying
+pub mod ObsoleteNumbers
 pub mod Opening
 pub mod RemovalCounts
 pub mod RemovalFiles

@@ -4,10 +4,9 @@ use Rattle.sv_model.specs.declared.Write.{Write}
 use Rattle.sv_model.specs.declared.Memtable.{Memtable}
 use Rattle.sv_model.specs.declared.MemtableList.{MemtableList}
 use Rattle.sv_model.specs.Lists.{In, IsChosen}
-use Rattle.sv_model.specs.Named.{HasMember}
+use Rattle.sv_model.specs.Named.{HasMember, IsLiveMemtable}
 use Rattle.sv_model.specs.Places.{live_count}
 use Rattle.sv_model.specs.Registers.{entry, Has}
-use Rattle.sv_cells.specs.Calls.{IsLiveMemtable}
 use Rattle.sv_plain.specs.declared.immutables.Immutable.{Immutable}
 use Rattle.sv_plain.specs.Immutables.{ImmutablesJoin}
 use Rattle.sv_plain.specs.Lasts.{OnlyLast}

@@ -8,8 +8,9 @@ use Rattle.sv_model.specs.declared.SuperVersion.{SuperVersion}
 use Rattle.sv_model.specs.declared.Version.{Version}
 use Rattle.sv_model.specs.declared.Refusal.{Refusal}
 use Rattle.sv_model.specs.declared.Refusal.TheVariants as refusal
+use Rattle.sv_model.specs.Named.{super_live}
 use Rattle.sv_model.specs.Lists.{In}
-use Rattle.sv_model.specs.Places.{live_count, super_live}
+use Rattle.sv_model.specs.Places.{live_count}
 use Rattle.sv_model.specs.Moments.{WereAllMade, WereManyLive}
 use Rattle.sv_model.specs.Reads.{IsOutput, IsCapturedFor}
 use Rattle.sv_model.specs.Refusals.{IsDue}

@@ -9,11 +9,12 @@ use Rattle.sv_model.specs.declared.Memtable.{Memtable}
 use Rattle.sv_model.specs.declared.RegisteredFile.{RegisteredFile}
 use Rattle.sv_model.specs.declared.Refusal.{Refusal}
 use Rattle.sv_model.specs.declared.Refusal.TheVariants as refusal
+use Rattle.sv_model.specs.Named.{memtable_live, super_live}
 use Rattle.sv_model.specs.Lists.{In}
 use Rattle.sv_plain.specs.Follows.{Follows}
 use Rattle.sv_model.specs.After.{KeepsSuper, KeepsMemtable, KeepsList, KeepsVersion, KeepsNumber}
 use Rattle.sv_model.specs.Moments.{WasFlushed, WereManyMemtables, WereManyLive, WereAllMade, WereAllNumbered}
-use Rattle.sv_model.specs.Places.{live_count, memtable_live, super_live}
+use Rattle.sv_model.specs.Places.{live_count}
 use Rattle.sv_model.specs.Ranges.{FilesJoin}
 use Rattle.sv_model.specs.Refusals.{first_due}
 use Rattle.sv_model.specs.Books.{Books}

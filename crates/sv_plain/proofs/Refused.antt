@@ -6,8 +6,9 @@ use Rattle.sv_model.specs.declared.MemtableList.{MemtableList}
 use Rattle.sv_model.specs.declared.Refusal.{Refusal}
 use Rattle.sv_model.specs.declared.Refusal.TheVariants as refusal
 use Rattle.sv_model.specs.declared.Write.{Write}
+use Rattle.sv_model.specs.Named.{memtable_live, super_live}
 use Rattle.sv_model.specs.Moments.{BeginsFrom, HasTwo, WasStalled, WereManyMemtables, WereAllMade, WereManyLive}
-use Rattle.sv_model.specs.Places.{live_count, memtable_live, super_live}
+use Rattle.sv_model.specs.Places.{live_count}
 use Rattle.sv_model.specs.Ranges.{FilesJoin, reach_from, reach_of}
 use Rattle.sv_model.specs.declared.FileMeta.{FileMeta}
 use Rattle.sv_model.specs.declared.Version.{Version}

@@ -36,7 +36,7 @@ lt_yes a b h = grind arith
 lt_no : (a b : ℕ) → b ≤ a → nat_lt a b ≡ false
 lt_no a b h = grind arith
 
-obsolete_or : (s : FileStatus) → (s ≡ Obsolete) ⊎ (is_obsolete s ≡ false)
+pub obsolete_or : (s : FileStatus) → (s ≡ Obsolete) ⊎ (is_obsolete s ≡ false)
 obsolete_or Pending = inr refl
 obsolete_or Live = inr refl
 obsolete_or Obsolete = inl refl
@@ -67,7 +67,7 @@ total_same {A} f g (x ∷ l) h =
 one_where : RegisteredFile → ℕ
 one_where x = cond (is_obsolete x.status) 1 0
 
-count_total : (numbers : List RegisteredFile) → count_obsolete numbers ≡ total (λ x. cond (is_obsolete x.status) 1 0) numbers
+pub count_total : (numbers : List RegisteredFile) → count_obsolete numbers ≡ total (λ x. cond (is_obsolete x.status) 1 0) numbers
 count_total [] = refl
 count_total (x ∷ numbers) = by_case (is_obsolete x.status) (count_total numbers)
   where

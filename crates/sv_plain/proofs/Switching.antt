@@ -9,8 +9,8 @@ use Rattle.sv_model.specs.declared.MemtableList.{MemtableList}
 use Rattle.sv_model.specs.Journal.{borne_by, of_family, row_of, rows_of}
 use Rattle.sv_model.specs.Flat.{range_of}
 use Rattle.sv_model.specs.Lists.{In}
-use Rattle.sv_model.specs.Named.{IsLiveList}
-use Rattle.sv_model.specs.Places.{live_count, memtable_live}
+use Rattle.sv_model.specs.Named.{IsLiveList, memtable_live}
+use Rattle.sv_model.specs.Places.{live_count}
 use Rattle.sv_model.specs.Registers.{entry, change}
 use Rattle.sv_model.specs.Books.{Books}
 use Rattle.sv_model.proofs.Lists.{total-push}

@@ -5,8 +5,8 @@ use Rattle.sv_model.specs.declared.FileStatus.TheVariants.{Obsolete, Grabbed, Go
 use Rattle.sv_model.specs.declared.RegisteredFile.{RegisteredFile}
 use Rattle.sv_model.specs.Books.{FileRegister}
 use Rattle.sv_model.specs.Registers.{entry, change}
-use Rattle.sv_model.specs.Numbers.{IsMarked, MarksOnly, registered}
-use Rattle.sv_model.proofs.Registers.{entry_change}
+use Rattle.sv_model.specs.Numbers.{IsMarked, IsRegistered, MarksOnly, registered}
+use Rattle.sv_model.proofs.Registers.{entry_change, entry-same}
 use Rattle.sv_model.proofs.NumberLaws.{one_entry}
 use Rattle.sv_files.specs.Calls.{IsTaken}
 
@@ -28,6 +28,13 @@ set-itself (z ∷ l) (suc n) x e = ap (λ m. z ∷ m) (set-itself l n x e)
 change-itself : {A : Type 0} (l : List A) (n : ℕ) (x : A) → entry l n ≡ Some x → change l n x ≡ l
 change-itself l zero x e = refl
 change-itself l (suc n) x e = set-itself l n x e
+
+-- ---- the number that was taken
+pub is_grabbed : (number : ℕ) (old mid : FileRegister) → IsTaken number old mid → IsRegistered mid.numbers number Grabbed
+is_grabbed number old mid taken =
+    let t = taken.numbers in
+    let it = record t.it { status = Grabbed } in
+    (t.at, it, ap (λ l. entry l t.at) t.marked ∙ entry-same old.numbers t.at t.it it t.found, record { number_is = t.had.number_is; status_is = refl })
 
 -- ---- the same number is marked twice
 module _ (number : ℕ) (now : FileStatus) (old mid new : List RegisteredFile) (once : (n : ℕ) → registered n old ≤ 1) (taken : IsMarked number Obsolete Grabbed old mid) (given : IsMarked number Grabbed now mid new) where

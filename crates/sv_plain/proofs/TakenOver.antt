@@ -5,6 +5,7 @@ use Rattle.sv_model.specs.declared.Memtable.{Memtable}
 use Rattle.sv_model.specs.declared.MemtableList.{MemtableList}
 use Rattle.sv_model.specs.declared.Version.{Version}
 use Rattle.sv_model.specs.declared.FileMeta.{FileMeta}
+use Rattle.sv_model.specs.Named.{memtable_live}
 use Rattle.sv_model.specs.Books.{FileRegister}
 use Rattle.sv_model.specs.Journal.{borne_by}
 use Rattle.sv_plain.specs.declared.installs.Flushed.{Flushed}
@@ -18,7 +19,6 @@ use Rattle.sv_plain.proofs.LiveNumbers.{files_more}
 use Rattle.sv_plain.proofs.Outlasting.{one_live}
 use Rattle.sv_plain.proofs.Switching.{few_made}
 use Rattle.sv_plain.proofs.Taking.{Steps, books_after, list_made, version_made, lists_are, lists_last, versions_are, versions_last, supers_are, supers_last, file_settles, active_alone, active_still, before_it}
-use Rattle.sv_model.specs.Places.{memtable_live}
 
 pub stands_after : (p : Parts) (file : FileMeta) (made : Flushed) (supers : List SuperVersion) (new_lists : List MemtableList) (memtables : List Memtable) (new_versions : List Version) (files : FileRegister) → (h : Steps p file made supers new_lists memtables new_versions files)
     → Stands (books_after p supers new_lists memtables new_versions files) p.base p.base (length h.taking.supers + 1) h.taking.made_is.rest.super_is.place made.list made.version p.active []

@@ -8,10 +8,9 @@ use Rattle.sv_model.specs.declared.FileMeta.{FileMeta}
 use Rattle.sv_model.specs.declared.FileStatus.TheVariants.{Live}
 use Rattle.sv_model.specs.Books.{Books, FileRegister}
 use Rattle.sv_model.specs.Lists.{In}
-use Rattle.sv_model.specs.Named.{HasFile, IsLiveList, IsLiveVersion, numbers_of}
+use Rattle.sv_model.specs.Named.{HasFile, IsLiveList, IsLiveMemtable, IsLiveVersion, numbers_of}
 use Rattle.sv_model.specs.Registers.{entry, change, Has}
 use Rattle.sv_model.proofs.Registers.{entry-old}
-use Rattle.sv_cells.specs.Calls.{IsLiveMemtable}
 use Rattle.sv_plain.specs.Outcomes.{IsSettled}
 use Rattle.sv_imm.specs.Changes as lists
 use Rattle.sv_version.specs.Changes as versions

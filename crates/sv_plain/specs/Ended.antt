@@ -1,8 +1,9 @@
 -- Memtables that ended together.
 use Rattle.std.specs.Prelude.{◌≡◌, ◌+◌, ℕ, false, List, Some, length}
 use Rattle.sv_model.specs.declared.Memtable.{Memtable}
+use Rattle.sv_model.specs.Named.{memtable_live}
 use Rattle.sv_model.specs.Lists.{In}
-use Rattle.sv_model.specs.Places.{live_count, memtable_live}
+use Rattle.sv_model.specs.Places.{live_count}
 use Rattle.sv_model.specs.Registers.{entry}
 
 -- Each of these is Gone, and the others are as they were.

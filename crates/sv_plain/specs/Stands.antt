@@ -8,8 +8,8 @@ use Rattle.sv_model.specs.declared.FileStatus.{FileStatus}
 use Rattle.sv_model.specs.declared.FileStatus.TheVariants.{Live, Obsolete}
 use Rattle.sv_model.specs.Journal.{borne_by, rows_of}
 use Rattle.sv_model.specs.Lists.{In}
-use Rattle.sv_model.specs.Named.{numbers_of}
-use Rattle.sv_model.specs.Places.{live_count, memtable_live}
+use Rattle.sv_model.specs.Named.{memtable_live, numbers_of}
+use Rattle.sv_model.specs.Places.{live_count}
 use Rattle.sv_model.specs.Ranges.{FilesJoin}
 use Rattle.sv_model.specs.Registers.{entry}
 use Rattle.sv_model.specs.Books.{Books}

@@ -1,7 +1,7 @@
 // Memtables that end together.
 ghost use Rattle.std.specs.Prelude.{ℕ};
+ghost use Rattle.sv_model.specs.Named.{IsLiveMemtable};
 ghost use Rattle.sv_model.specs.Lists.{Distinct, In};
-ghost use Rattle.sv_cells.specs.Calls.{IsLiveMemtable};
 ghost use Rattle.sv_plain.specs.Ended.{AreEnded};
 
 use sv_cells::MemtableRegister;

@@ -17,11 +17,7 @@ use sv_model::{Bottom, FileMeta, FileNumber, Numbered, OutOfMemory, Refusal};
 use sv_table::encode;
 
 // Appends copies of the rows, each with its number moved on.
-fn append_rows(
-    rows: &mut Vec<Numbered>,
-    frozen: &[Numbered],
-    first: u64,
-) -> Result<(), OutOfMemory>
+fn append_rows(rows: &mut Vec<Numbered>, frozen: &[Numbered], first: u64) -> Result<(), OutOfMemory>
     requires { AllByRecursion (λ n. first + n.number < 2 ^ 64) frozen.now }
     ensures { OnOk result (rows.new.items ≡ rows.old.items ++ map (moved first) frozen.now) }
 {

@@ -51,7 +51,7 @@ fn other_field(head: &Head, file: &FileMeta) -> Option<u64>
     if head.bottom.last != file.bottom.last {
         return Some(24);
     }
-    if head.bottom.cuts != file.bottom.cuts {
+    if head.bottom.cuts.as_slice() != file.bottom.cuts.as_slice() {
         return Some(25);
     }
     None

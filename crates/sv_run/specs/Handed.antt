@@ -1,6 +1,7 @@
 -- What contracts see of what a run is handed, before the run and after it.
 use Rattle.std.specs.Prelude.{◌≡◌, ℕ, List, Option}
 use Rattle.sv_model.specs.Files.{Files}
+
 -- the words, what the source had, where it tells its bytes, and the source's count of faults
 pub record Input : Type 0 where
   pub words : List (List ℕ)

@@ -1,0 +1,16 @@
+pub mod EndNumbers
+pub mod Examples
+pub mod FileText
+pub mod HeaderText
+pub mod KeptRows
+pub mod KeyTests
+pub mod Leaves
+pub mod Loops
+pub mod OneField
+pub mod PlaceText
+pub mod RowText
+pub mod Runs
+pub mod Spelling
+pub mod Stops
+pub mod Whole
+pub mod WrittenText

@@ -2,7 +2,7 @@
 ghost use Rattle.std.specs.Prelude.{◌≡◌, ◌++◌, ◌<◌, ◌≤◌, ◌^◌, ◌∷◌, [], ℕ, List, length, IfOk, OnOk};
 ghost use Rattle.std.specs.Int.{w64, to_le_bytes};
 ghost use Rattle.std.specs.List.{flat_map};
-ghost use Rattle.sv_model.specs.TableText.{HasText, IsStored, IsStoredOp, IsWellFormed, flag, magic, cuts_text, end_number, end_text, header_text, key_text, kept_text, range_text, op_text, table_text};
+ghost use Rattle.sv_model.specs.TableText.{AreBytes, HasText, IsStored, IsStoredOp, IsWellFormed, flag, magic, cuts_text, end_number, end_text, header_text, key_text, kept_text, range_text, op_text, table_text};
 ghost use Rattle.sv_table.specs.Views.{format_is};
 
 use crate::formats::{Format, format_of, has_cuts, magic_of};
@@ -62,7 +62,8 @@ fn put_op(out: &mut Vec<u8>, op: &Op) -> Result<(), OutOfMemory>
 
 fn put_key(out: &mut Vec<u8>, key: &[u8]) -> Result<(), OutOfMemory>
     requires { length key.now ≤ 64 }
-    ensures { OnOk result (out.new.items ≡ out.old.items ++ key_text key.now) }
+    ensures text { OnOk result (out.new.items ≡ out.old.items ++ key_text key.now) }
+    ensures bytes { OnOk result (AreBytes key.now) }
 {
     out.push(key.len() as u8)?;
     out.extend_from_slice(key)?;

@@ -6,6 +6,7 @@ ghost use Rattle.sv_table.specs.Views.{Gives};
 
 use crate::faults::Stuck;
 
+#[inline(always)]
 pub(crate) fn u16_at(bytes: &[u8]) -> Result<(u16, &[u8]), Stuck>
     ensures { Gives (λ x. (x.0, x.1.now)) result (number_at w16 bytes.now) }
 {
@@ -17,6 +18,7 @@ pub(crate) fn u16_at(bytes: &[u8]) -> Result<(u16, &[u8]), Stuck>
     Ok((number, rest))
 }
 
+#[inline(always)]
 pub(crate) fn u32_at(bytes: &[u8]) -> Result<(u32, &[u8]), Stuck>
     ensures { Gives (λ x. (x.0, x.1.now)) result (number_at w32 bytes.now) }
 {
@@ -28,6 +30,7 @@ pub(crate) fn u32_at(bytes: &[u8]) -> Result<(u32, &[u8]), Stuck>
     Ok((number, rest))
 }
 
+#[inline(always)]
 pub(crate) fn u64_at(bytes: &[u8]) -> Result<(u64, &[u8]), Stuck>
     ensures { Gives (λ x. (x.0, x.1.now)) result (number_at w64 bytes.now) }
 {
@@ -41,6 +44,7 @@ pub(crate) fn u64_at(bytes: &[u8]) -> Result<(u64, &[u8]), Stuck>
     Ok((number, rest))
 }
 
+#[inline(always)]
 pub(crate) fn byte_at(bytes: &[u8]) -> Result<(u8, &[u8]), Stuck>
     ensures { Gives (λ x. (x.0, x.1.now)) result (byte_at bytes.now) }
 {
@@ -50,6 +54,7 @@ pub(crate) fn byte_at(bytes: &[u8]) -> Result<(u8, &[u8]), Stuck>
     }
 }
 
+#[inline(always)]
 pub(crate) fn bytes_at(len: usize, bytes: &[u8]) -> Result<(&[u8], &[u8]), Stuck>
     ensures { Gives (λ x. (x.0.now, x.1.now)) result (bytes_at len bytes.now) }
 {

@@ -44,6 +44,7 @@ pub(crate) fn magic_of(format: Format) -> [u8; 8]
 }
 
 /// Whether cuts, and the ends of rows, are written.
+#[inline(always)]
 pub(crate) fn has_cuts(format: Format) -> bool
     ensures { result ≡ has_cuts (format_is format) }
 {

@@ -99,10 +99,9 @@ fn bottom_at(format: Format, from: u64, to: u64, bytes: &[u8]) -> Result<(Bottom
 }
 
 fn is_count(from: u64, to: u64, last: bool, count: u32) -> bool
-    requires { from ≤ to }
     ensures { result ≡ is_count from to last count }
 {
-    u64::from(count) <= to - from && (last || count >= 1)
+    u64::from(count) <= to.saturating_sub(from) && (last || count >= 1)
 }
 
 #[tactic(auto, unfolding(crate::specs::Reading::header_at))]

@@ -1,5 +1,5 @@
 // Reading a row.
-ghost use Rattle.std.specs.Prelude.{◌≡◌, ℕ, List, []};
+ghost use Rattle.std.specs.Prelude.{◌≡◌, ◌&&◌, ℕ, List, []};
 ghost use Rattle.sv_model.specs.Journal.{is_delete};
 ghost use Rattle.sv_model.specs.TableTextFields.{start, key_fits, number_fits, mark_fits};
 ghost use Rattle.sv_table.specs.Reading.{key_at, end_at, value_at, op_at, entry_at, see_entry, shape_of};
@@ -63,6 +63,7 @@ pub(crate) fn start<'a>() -> Seen<'a>
 }
 
 /// One more row was seen.
+#[inline(always)]
 pub(crate) fn see<'a>(seen: Seen<'a>, row: RowAt<'a>) -> Seen<'a>
     ensures { seen_is result ≡ see_entry (seen_is seen.entry) (entry_is row.entry) }
 {
@@ -79,6 +80,15 @@ pub(crate) fn see<'a>(seen: Seen<'a>, row: RowAt<'a>) -> Seen<'a>
     }
 }
 
+/// Whether an older row of the key has to follow.
+#[inline(always)]
+fn is_open(shape: Shape, seen: Seen<'_>) -> bool
+    ensures { result ≡ (shape.last && seen.entry.deleted) }
+{
+    shape.last && seen.deleted
+}
+
+#[inline(always)]
 fn key_fits(shape: Shape, seen: Seen<'_>, key: &[u8]) -> bool
     ensures { result ≡ key_fits (shape_is shape) (seen_is seen.entry) key.now }
 {
@@ -87,13 +97,14 @@ fn key_fits(shape: Shape, seen: Seen<'_>, key: &[u8]) -> bool
         return order.is_lt();
     }
     match order {
-        Ordering::Less => !(shape.last && seen.deleted),
+        Ordering::Less => !is_open(shape, seen),
         Ordering::Equal => true,
         Ordering::Greater => false,
     }
 }
 
 #[tactic(auto, unfolding(crate::specs::Reading::key_at))]
+#[inline(always)]
 fn key_at<'a>(shape: Shape, seen: Seen<'_>, bytes: &'a [u8]) -> Result<(&'a [u8], &'a [u8]), Stuck>
     ensures { Gives (λ x. (x.0.now, x.1.now)) result (key_at (shape_is shape) (seen_is seen.entry) bytes.now) }
 {
@@ -110,6 +121,7 @@ fn key_at<'a>(shape: Shape, seen: Seen<'_>, bytes: &'a [u8]) -> Result<(&'a [u8]
     Ok((key, rest))
 }
 
+#[inline(always)]
 fn number_fits(shape: Shape, seen: Seen<'_>, key: &[u8], number: u8) -> bool
     ensures { result ≡ number_fits (shape_is shape) (seen_is seen.entry) key.now number }
 {
@@ -118,6 +130,7 @@ fn number_fits(shape: Shape, seen: Seen<'_>, key: &[u8], number: u8) -> bool
 
 /// The number of a row's end; 0 where ends are not written.
 #[tactic(auto, unfolding(crate::specs::Reading::end_at))]
+#[inline(always)]
 fn end_at<'a>(
     shape: Shape,
     seen: Seen<'_>,
@@ -137,6 +150,7 @@ fn end_at<'a>(
 }
 
 #[tactic(auto, unfolding(crate::specs::Reading::value_at))]
+#[inline(always)]
 fn value_at(bytes: &[u8]) -> Result<(&[u8], &[u8]), Stuck>
     ensures { Gives (λ x. (x.0.now, x.1.now)) result (value_at bytes.now) }
 {
@@ -148,6 +162,7 @@ fn value_at(bytes: &[u8]) -> Result<(&[u8], &[u8]), Stuck>
 }
 
 /// Whether a delete may stand before so many rows, and else only a put.
+#[inline(always)]
 fn mark_fits(shape: Shape, left: u32, mark: u8) -> bool
     ensures { result ≡ mark_fits (shape_is shape) left mark }
 {
@@ -155,6 +170,7 @@ fn mark_fits(shape: Shape, left: u32, mark: u8) -> bool
 }
 
 #[tactic(auto, unfolding(crate::specs::Reading::op_at))]
+#[inline(always)]
 fn op_at(shape: Shape, left: u32, bytes: &[u8]) -> Result<(Hit<'_>, &[u8]), Stuck>
     ensures { Gives (λ x. (op_is x.0, x.1.now)) result (op_at (shape_is shape) left bytes.now) }
 {
@@ -171,6 +187,7 @@ fn op_at(shape: Shape, left: u32, bytes: &[u8]) -> Result<(Hit<'_>, &[u8]), Stuc
 
 /// A row after which `left` more are to come, and the bytes after it.
 #[tactic(auto, unfolding(crate::specs::Reading::entry_at))]
+#[inline(always)]
 pub(crate) fn entry_at<'a>(
     shape: Shape,
     left: u32,

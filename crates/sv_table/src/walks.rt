@@ -1,6 +1,7 @@
 // Going over a whole file's fields.
-ghost use Rattle.std.specs.Prelude.{◌≡◌, ℕ, List};
+ghost use Rattle.std.specs.Prelude.{◌≡◌, ℕ, List, IfOk};
 ghost use Rattle.sv_model.specs.TableTextFields.{start};
+ghost use Rattle.sv_table.specs.Decoding.{IsTable};
 ghost use Rattle.sv_table.specs.Reading.{walked, entries_in, exact_key_at, tail_at, file_at};
 ghost use Rattle.sv_table.specs.Views.{Gives, format_is, header_is, seen_is};
 
@@ -64,7 +65,8 @@ fn tail_at<'a>(
 /// The header of a whole file, and the bytes after it.
 #[tactic(auto, unfolding(crate::specs::Reading::file_at))]
 pub(crate) fn file_at(bytes: &[u8]) -> Result<(Header, &[u8]), Stuck>
-    ensures { Gives (λ x. (header_is x.0, x.1.now)) result (file_at bytes.now) }
+    ensures gives { Gives (λ x. (header_is x.0, x.1.now)) result (file_at bytes.now) }
+    ensures table { IfOk result (λ x. IsTable bytes.now (header_is x.0) x.1.now) }
 {
     let (header, rows) = match header_at(bytes) {
         Ok(read) => read,

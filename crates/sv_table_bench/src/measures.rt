@@ -1,13 +1,13 @@
-// How many rows a second each call takes in.
-ghost use Rattle.std.specs.Prelude.{◌≡◌, false};
-ghost use Rattle.sv_model.specs.TableText.{IsWellFormed};
+// How many rows, or look-ups, a second each call takes in.
+ghost use Rattle.sv_model.specs.TableText.{IsTableFile, IsWellFormed};
 
 use crate::faults::Fault;
-use crate::samples::found;
+use crate::samples::{digits, found, found_by, leap};
 use std::alloc::Global;
 use std::rt::Clock;
 use std::time::{Duration, Instant};
-use sv_table::{Table, decode, encode, merge};
+use sv_model::{Key, Table};
+use sv_table::{Checked, Hit, check, decode, encode, find_in};
 
 /// A call at tables of so many rows, made so often.
 #[derive(Clone, Copy)]
@@ -16,11 +16,11 @@ struct Series {
     repeats: u32,
 }
 
-/// Prints a call's line: `rows` is how many rows each table has, and `done` how many were taken in.
+/// Prints a call's line: `rows` is how many rows each table has, and `done` how many were taken in or looked up.
 fn tell(rt: &impl Print, call: &str, rows: u32, done: u64, took: Duration) -> Result<(), Fault> {
     let micros = u64::try_from(took.as_micros()).unwrap_or(u64::MAX).max(1);
     let rate = done.saturating_mul(1_000_000) / micros;
-    println!(rt; "{call} rows {rows}: {rate} rows a second")?;
+    println!(rt; "{call} rows {rows}: {rate} a second")?;
     Ok(())
 }
 
@@ -69,50 +69,88 @@ fn finds(rt: &(impl Clock + Print), table: &Table, series: Series) -> Result<(),
     tell(rt, "find", series.rows, done, start.elapsed(rt)?)
 }
 
-/// Each merge takes in the rows of both tables.
-fn merges(
-    rt: &(impl Clock + Print),
-    alloc: Global,
-    older: Table,
-    newer: Table,
-    series: Series,
-) -> Result<(), Fault>
-    requires joins { newer.from ≡ older.to }
-    requires older_plain { older.bottom ≡ false }
-    requires newer_plain { newer.bottom ≡ false }
-{
-    let tables = [older, newer];
+fn checks(rt: &(impl Clock + Print), text: &[u8], series: Series) -> Result<(), Fault> {
     let start = Instant::now(rt)?;
     let mut done: u64 = 0;
     for _ in 0..series.repeats {
-        let merged = merge(alloc, &tables, false)?;
-        if merged.rows.as_slice().is_empty() {
-            return Err(Fault::Wrong);
+        match check(text) {
+            Ok(head) => done = done.saturating_add(u64::from(head.count)),
+            Err(_) => return Err(Fault::Wrong),
         }
-        done = done.saturating_add(u64::from(series.rows) * 2);
     }
-    tell(rt, "merge", series.rows, done, start.elapsed(rt)?)
+    tell(rt, "check", series.rows, done, start.elapsed(rt)?)
 }
 
-/// Each call in turn, over the tables of these bytes, of so many rows each. Each takes in some two million rows.
-pub fn all(
+/// Files in memory, with the places of their rows.
+fn indexes(
     rt: &(impl Clock + Print),
     alloc: Global,
-    older: &[u8],
-    newer: &[u8],
-    rows: u32,
+    text: &[u8],
+    series: Series,
 ) -> Result<(), Fault> {
+    let start = Instant::now(rt)?;
+    let mut done: u64 = 0;
+    for _ in 0..series.repeats {
+        let file = Checked::new(text.to_vec(alloc)?)?;
+        done = done.saturating_add(u64::from(file.head().count));
+    }
+    tell(rt, "Checked::new", series.rows, done, start.elapsed(rt)?)
+}
+
+/// Look-ups in bytes, of which each goes over half of the rows; so there are few of them.
+fn finds_in(
+    rt: &(impl Clock + Print),
+    alloc: Global,
+    text: &[u8],
+    series: Series,
+) -> Result<(), Fault>
+    requires { IsTableFile text.now }
+{
+    let start = Instant::now(rt)?;
+    let mut done: u64 = 0;
+    for round in 0..series.repeats {
+        let number = leap(round, series.rows);
+        let Ok(key) = Key::new(alloc, &digits(number)) else {
+            return Err(Fault::OutOfMemory);
+        };
+        match find_in(text, &key, u64::MAX) {
+            Some(Hit::Put(_)) => done = done.saturating_add(1),
+            _ => return Err(Fault::Wrong),
+        }
+    }
+    tell(rt, "find_in", series.rows, done, start.elapsed(rt)?)
+}
+
+fn finds_by(
+    rt: &(impl Clock + Print),
+    file: &Checked,
+    table: &Table,
+    series: Series,
+) -> Result<(), Fault> {
+    let start = Instant::now(rt)?;
+    let mut done: u64 = 0;
+    for round in 0..series.repeats {
+        done = done.saturating_add(found_by(file, table, round as usize));
+    }
+    tell(rt, "Checked::find", series.rows, done, start.elapsed(rt)?)
+}
+
+/// Each call in turn, over a table of these bytes, of so many rows. Each takes in some two million rows.
+pub fn all(rt: &(impl Clock + Print), alloc: Global, text: &[u8], rows: u32) -> Result<(), Fault> {
     let series = Series {
         rows,
         repeats: 2_000_000 / rows.max(1),
     };
-    let table = decode(alloc, older)?;
-    let newer = decode(alloc, newer)?;
+    let table = decode(alloc, text)?;
+    let file = Checked::new(text.to_vec(alloc)?)?;
     encodes(rt, alloc, &table, series)?;
-    decodes(rt, alloc, older, series)?;
+    decodes(rt, alloc, text, series)?;
+    checks(rt, text, series)?;
+    indexes(rt, alloc, text, series)?;
     finds(rt, &table, series)?;
-    if newer.from != table.to || table.bottom || newer.bottom {
-        return Err(Fault::Wrong);
+    finds_by(rt, &file, &table, series)?;
+    match check(text) {
+        Ok(_) => finds_in(rt, alloc, text, series),
+        Err(_) => Err(Fault::Wrong),
     }
-    merges(rt, alloc, table, newer, series)
 }

@@ -1,8 +1,8 @@
 // Tables to measure with, and a check of them.
 use crate::faults::Fault;
 use std::alloc::{AllocError, Global};
-use sv_model::Op;
-use sv_table::{Table, decode, encode};
+use sv_model::{Op, Table};
+use sv_table::{Checked, Hit, decode, encode};
 
 /// A prime above any number of rows, so that leaps of it come to each row once.
 const LEAP: usize = 2_654_435_761;
@@ -10,7 +10,7 @@ const LEAP: usize = 2_654_435_761;
 const VALUE: [u8; 16] = *b"sixteen bytes...";
 
 /// Eight digits, so that keys ascend as their numbers do.
-fn digits(number: u32) -> [u8; 8] {
+pub fn digits(number: u32) -> [u8; 8] {
     let mut digits = [b'0'; 8];
     let mut left = number;
     for digit in digits.iter_mut().rev() {
@@ -20,27 +20,19 @@ fn digits(number: u32) -> [u8; 8] {
     digits
 }
 
-/// The numbers that a table has as keys: so many from the first on, each so far above the one before.
-#[derive(Clone, Copy)]
-pub struct Keys {
-    pub first: u32,
-    pub step: u32,
-    pub count: u32,
-}
-
-/// The bytes of a table that covers the writes from `from + 1` on: a put under each of the keys.
-pub fn text(alloc: Global, from: u64, keys: Keys) -> Result<Vec<u8>, AllocError> {
+/// The bytes of a table with a put under each key from 0 on, so many of them.
+pub fn text(alloc: Global, count: u32) -> Result<Vec<u8>, AllocError> {
     let mut text = Vec::new(alloc);
-    let to = from.saturating_add(u64::from(keys.count));
+    let from: u64 = 0;
+    let to = u64::from(count);
     text.extend_from_slice(b"SVTABLE1")?;
     text.extend_from_slice(&from.to_le_bytes())?;
     text.extend_from_slice(&to.to_le_bytes())?;
     text.push(0)?;
-    text.extend_from_slice(&keys.count.to_le_bytes())?;
-    for row in 0..keys.count {
+    text.extend_from_slice(&count.to_le_bytes())?;
+    for row in 0..count {
         text.push(8)?;
-        let leap = row.saturating_mul(keys.step);
-        text.extend_from_slice(&digits(keys.first.saturating_add(leap)))?;
+        text.extend_from_slice(&digits(row))?;
         text.extend_from_slice(&[1, 16, 0])?;
         text.extend_from_slice(&VALUE)?;
     }
@@ -56,7 +48,7 @@ pub fn found(table: &Table, first: usize) -> u64 {
     for _ in 0..rows.len() {
         at = at.wrapping_add(LEAP) % rows.len().max(1);
         if let Some(row) = rows.get(at)
-            && matches!(table.find(&row.key), Some(Op::Put(_)))
+            && matches!(table.find(&row.row.key), Some(Op::Put(_)))
         {
             found = found.saturating_add(1);
         }
@@ -64,11 +56,35 @@ pub fn found(table: &Table, first: usize) -> u64 {
     found
 }
 
-/// The bytes are decoded, encoding gives them again, and each key is found.
+/// The same in a file's bytes.
+pub fn found_by(file: &Checked, table: &Table, first: usize) -> u64 {
+    let rows = table.rows.as_slice();
+    let mut found: u64 = 0;
+    let mut at = first;
+    for _ in 0..rows.len() {
+        at = at.wrapping_add(LEAP) % rows.len().max(1);
+        if let Some(row) = rows.get(at)
+            && matches!(file.find(&row.row.key, u64::MAX), Some(Hit::Put(_)))
+        {
+            found = found.saturating_add(1);
+        }
+    }
+    found
+}
+
+/// A number below the count, far from that of the round before.
+pub fn leap(round: u32, count: u32) -> u32 {
+    let far = u64::from(round).wrapping_mul(LEAP as u64);
+    (far % u64::from(count.max(1))) as u32
+}
+
+/// The bytes are decoded, encoding gives them again, and each key is found in the table and in the bytes.
 pub fn check(alloc: Global, text: &[u8]) -> Result<(), Fault> {
     let table = decode(alloc, text)?;
     let again = encode(alloc, &table)?;
-    if again.as_slice() != text || found(&table, 0) != table.rows.as_slice().len() as u64 {
+    let file = Checked::new(text.to_vec(alloc)?)?;
+    let rows = table.rows.as_slice().len() as u64;
+    if again.as_slice() != text || found(&table, 0) != rows || found_by(&file, &table, 0) != rows {
         return Err(Fault::Wrong);
     }
     Ok(())

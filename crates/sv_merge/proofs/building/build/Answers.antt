@@ -6,7 +6,7 @@ use Rattle.sv_model.specs.declared.writes.Numbered.{Numbered}
 use Rattle.sv_model.specs.Flat.{IsFlatOf}
 use Rattle.sv_merge.specs.Building.{placed}
 use Rattle.sv_merge.specs.Placing.{same_place, thinned}
-use Rattle.sv_merge.proofs.Built.{built_flat, cuts_rise, same_length}
+use Rattle.sv_merge.proofs.BuildLaws.{built_flat, cuts_rise, same_length}
 use Rattle.sv_merge.proofs.building.build.Goals as goal
 
 pub placed-requires : goal.placed-requires

@@ -3,8 +3,8 @@ use Rattle.std.proofs.lemmas.List.{take_all}
 use Rattle.std.proofs.lemmas.List.Sorted.{answers_always}
 use Rattle.sv_model.specs.declared.writes.Numbered.{Numbered}
 use Rattle.sv_merge.specs.Building.{is_ahead}
-use Rattle.sv_merge.proofs.Newest.{ahead_weak_refs}
-use Rattle.sv_merge.proofs.Built.{newest_first}
+use Rattle.sv_merge.proofs.NewestFirst.{ahead_weak_refs}
+use Rattle.sv_merge.proofs.BuildLaws.{newest_first}
 use Rattle.sv_merge.proofs.building.newest_first.Goals as goal
 
 pub returns : goal.returns

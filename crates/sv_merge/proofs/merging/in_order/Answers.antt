@@ -4,7 +4,7 @@ use Rattle.std.proofs.lemmas.List.MinMax.{ranks_by}
 use Rattle.std.proofs.lemmas.List.Sorted.{answers_always, length_permutation}
 use Rattle.std.specs.Cmp.{IsStrictWeakOrder}
 use Rattle.sv_merge.specs.declared.placing.Placed.{Placed}
-use Rattle.sv_merge.proofs.Sorting.{below, in_order}
+use Rattle.sv_merge.proofs.InOrderLaws.{below, in_order}
 use Rattle.sv_merge.proofs.merging.in_order.Goals as goal
 
 pub returns : goal.returns

@@ -3,9 +3,9 @@ use Rattle.std.specs.List.Sorted.{IsNonDecreasing}
 use Rattle.sv_model.specs.Flat.{AreCuts}
 use Rattle.sv_merge.specs.Placing.{kepts_of}
 use Rattle.sv_merge.specs.Merging.{Joined, IsMergeOf}
-use Rattle.sv_merge.proofs.Built.{cuts_rise}
-use Rattle.sv_merge.proofs.Merged.{merged_as, merged_flat, joined_ends}
-use Rattle.sv_merge.proofs.WellMerged.{merged_well}
+use Rattle.sv_merge.proofs.BuildLaws.{cuts_rise}
+use Rattle.sv_merge.proofs.MergeLaws.{merged_as, merged_flat, joined_ends}
+use Rattle.sv_merge.proofs.MergeWellFormed.{merged_well}
 use Rattle.sv_merge.proofs.merging.merge.Goals as goal
 
 pub gathered-requires : goal.gathered-requires

@@ -13,8 +13,8 @@ use Rattle.sv_files.proofs.Registered.{bit-le, count-le, registered-some}
 use Rattle.sv_files.proofs.Keeping.{kept_push, is-set, IsSet}
 use Rattle.sv_files.proofs.numbers.Numbers.push.Goals as goal
 
-pub overflow_sub-at : goal.overflow_sub-at
-overflow_sub-at c =
+pub overflow_sub-room : goal.overflow_sub-room
+overflow_sub-room c =
     omega (arith, c.self.invariant.counted, count-le c.self.inside.files.items, c.self.inside.files.ok.0, c.self.inside.obsolete.ok.0)
 
 pub set-requires-clause-was : goal.set-requires-clause-was

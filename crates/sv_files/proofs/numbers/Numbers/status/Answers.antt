@@ -23,6 +23,6 @@ returns-in-None c =
     ⊎_elim
     (λ none. ap (registered n) (sym c.self.view_is) ∙ none)
     (λ some. (
-        let p = has-place c.self.inside.places l n c.self.invariant.positions some in
-        let both : None ≡ Some p.0 = c.in-None.ensures.value ∙ p.1 in absurd (cc)))
+    let p = has-place c.self.inside.places l n c.self.invariant.positions some in
+    let both : None ≡ Some p.0 = c.in-None.ensures.value ∙ p.1 in absurd (cc)))
     cases

@@ -1,8 +1,9 @@
 -- The current SuperVersion goes, with its list and its memtables.
 use Rattle.std.proofs.Common.{◌≡◌, arith, sym, ap, subst, refl}
 use Rattle.sv_model.specs.declared.SuperVersion.{SuperVersion}
+use Rattle.sv_model.specs.Named.{IsLiveMemtable}
 use Rattle.sv_model.specs.Lists.{In}
-use Rattle.sv_cells.specs.Calls.{IsEnded, IsLiveMemtable}
+use Rattle.sv_cells.specs.Calls.{IsEnded}
 use Rattle.sv_plain.specs.Ended.{AreEnded}
 use Rattle.sv_plain.specs.Views.{books_of}
 use Rattle.sv_plain.proofs.Emptying.{Emptying, active_lives, emptied, given_member, member_lives}

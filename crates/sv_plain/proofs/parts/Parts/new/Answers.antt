@@ -1,7 +1,8 @@
 -- The store that begins.
-use Rattle.std.proofs.Common.{[], List, subst, refl}
+use Rattle.std.proofs.Common.{[], List, ap, subst, refl}
 use Rattle.sv_model.specs.declared.MemtableList.{MemtableList}
 use Rattle.sv_model.specs.declared.Version.{Version}
+use Rattle.sv_model.specs.Cells.{Cell}
 use Rattle.sv_imm.specs.Changes as lists
 use Rattle.sv_version.specs.Changes as versions
 use Rattle.sv_plain.proofs.Opening.{Opened, opened}
@@ -17,8 +18,8 @@ made c = record {
   no_write = c.new.ensures.items;
   no_meta = c.new-3.ensures.items;
   files_is = c.new-2.ensures;
-  id = c.new-4.ensures.id;
-  rows = c.new-4.ensures.rows;
+  id = ap (λ (m : Cell). m.id) c.new-4.ensures;
+  rows = ap (λ (m : Cell). m.rows) c.new-4.ensures;
   none = c.new-5.ensures.items;
 }
 

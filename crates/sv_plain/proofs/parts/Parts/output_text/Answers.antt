@@ -1,11 +1,53 @@
 -- The rows of the memtables are the writes of the file's range, and their flat has its text.
+use Rattle.std.proofs.Common.{◌≡◌, ◌<◌, ◌+◌, ◌^◌, ◌∙◌, List, length, ap, sym, subst}
+use Rattle.std.specs.List.{AllByRecursion}
+use Rattle.std.specs.List.Sorted.{IsPermutation}
+use Rattle.sv_model.specs.declared.Numbered.{Numbered}
+use Rattle.sv_model.specs.Flat.{numbered_after, range_of}
+use Rattle.sv_model.specs.HeldFiles.{IsFileText}
+use Rattle.sv_model.specs.TableText.{HasText, table_text}
+use Rattle.sv_plain.specs.declared.immutables.Immutable.{Immutable}
+use Rattle.sv_plain.specs.Outputs.{numbered_all}
+use Rattle.sv_plain.proofs.OutputTables.{IsBuilt, both_ok, built_text, built_well, due_count, due_fits, due_rows}
 use Rattle.sv_plain.proofs.parts.Parts.output_text.Goals as goal
 
+pub all_rows-requires : goal.all_rows-requires
+all_rows-requires c =
+    subst (λ (l : List Immutable). AllByRecursion (λ (it : Immutable). it.from + length it.rows.rows < 2 ^ 64) l) (sym c.as_slice.ensures.value)
+    (due_fits c.args.file.now c.args.self.now c.requires)
+
+-- the rows are those of the writes
+all_written : (c : goal.After-plain) → IsPermutation (numbered_after c.args.file.now.from (range_of c.args.self.now.journal.items 0 c.args.file.now.from c.args.file.now.to)) c.deref.result.now
+all_written c =
+    let rows = ap numbered_all c.as_slice.ensures.value ∙ due_rows c.args.file.now c.args.self.now c.requires in
+    subst (λ (l : List Numbered). IsPermutation l c.deref.result.now) rows
+    (subst (λ (l : List Numbered). IsPermutation (numbered_all c.as_slice.result.now) l) (sym c.deref.ensures.value) c.in_ok-rows.ensures)
+
 pub build-requires-clause-writes : goal.build-requires-clause-writes
-build-requires-clause-writes c = ?
+build-requires-clause-writes c =
+    let file = c.args.file.now in
+    let p = c.args.self.now in
+    (range_of p.journal.items 0 file.from file.to, due_count file p c.requires, all_written c)
+
+built : (c : goal.After-table-2-1) → IsBuilt c.args.file.now c.args.self.now c.plain.result c.in_ok-table.table
+built c =
+    let file = c.args.file.now in
+    let p = c.args.self.now in
+    record {
+      due = c.requires;
+      plain_is = c.plain.ensures;
+      range = c.in_ok-table.ensures.range;
+      flat = c.in_ok-table.ensures.flat (range_of p.journal.items 0 file.from file.to) (all_written c);
+    }
 
 pub encode-requires : goal.encode-requires
-encode-requires c = ?
+encode-requires c = built_well c.args.file.now c.args.self.now c.plain.result c.in_ok-table.table (built c)
 
 pub returns : goal.returns
-returns c = ?
+returns c =
+    let file = c.args.file.now in
+    let p = c.args.self.now in
+    let t = c.in_ok-table.table in
+    both_ok (λ text. text.items ≡ table_text t.from t.to t.bottom t.rows) (λ text. HasText t.from t.to t.bottom t.rows) (λ text. IsFileText p.journal.items 0 file text.items)
+    c.encode.result c.encode.ensures.text c.encode.ensures.has_text
+    (λ text is table. built_text file p c.plain.result t (built c) text.items is table)

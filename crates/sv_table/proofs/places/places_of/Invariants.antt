@@ -1,0 +1,23 @@
+use Rattle.std.proofs.Common.{◌≡◌, ◌-◌, List}
+use Rattle.sv_model.specs.declared.writes.Kept.{Kept}
+use Rattle.sv_model.specs.TableTextFields.{Seen}
+use Rattle.sv_table.specs.Places.{ArePlaces}
+use Rattle.sv_table.specs.Reading.{entries_in, kept_in}
+use Rattle.sv_table.specs.Views.{header_is, shape_is}
+use Rattle.sv_table.proofs.OneField.{IsBytes}
+use Rattle.sv_table.proofs.Loops.{Succeeds, rest_at, kept_front}
+use Rattle.sv_table.proofs.PlaceText.{Rests}
+use Rattle.sv_table.proofs.places.places_of.Given as goal
+
+abbrev pub invariant-loop-i : goal.invariant-loop-i
+invariant-loop-i l =
+    let seen : Seen = record { first = l.seen.0.now; key = l.seen.1.0.now; number = l.seen.1.1.0; deleted = l.seen.1.1.1.0 } in
+    let rest = rest_at (shape_is l.shape) l.count l.i seen l.rest in
+    record {
+      stands : Succeeds rest;
+      fits : IsBytes l.rest;
+      rests : Rests l.bytes l.rest;
+      rows : List Kept;
+      are : ArePlaces (header_is l.header) l.bytes l.places.items rows;
+      kept : kept_front (header_is l.header) rows rest ≡ kept_in (header_is l.header) (entries_in (header_is l.header) l.rows);
+    }
