@@ -1,5 +1,5 @@
-//! The laws of the state, over its books alone: what each change of them keeps, and what sound books say. Their words
-//! are in `specs/`, the laws in `proofs/`; there is no code.
+//! The laws of the state, over its books alone: what the books of an opening have, and what each change of them keeps.
+//! Their words are in `specs/`, the laws in `proofs/`. Two functions that do nothing carry the laws in their contracts.
 #![tactic(auto)]
 
 mod laws;
