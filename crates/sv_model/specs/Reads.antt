@@ -1,5 +1,5 @@
 -- What an answer to a command says of the books.
-use Rattle.std.specs.Prelude.{◌≡◌, ◌<◌, ◌≤◌, ℕ, Bool, true, List, Option, Some, IsSomeAnd}
+use Rattle.std.specs.Prelude.{◌≡◌, ◌≤◌, ℕ, Bool, true, List, Option, Some, IsSomeAnd}
 use Rattle.sv_model.specs.declared.writes.Write.{Write}
 use Rattle.sv_model.specs.declared.writes.Op.{Op}
 use Rattle.sv_model.specs.declared.records.SuperVersion.{SuperVersion}
