@@ -24,7 +24,6 @@ ReadFault file e = ⊥
 -- The bytes of this file were refused.
 abbrev pub BytesFault : ℕ → Refusal → Type 0
 BytesFault file (refusal.BadFile number place) = number ≡ file
-BytesFault file refusal.OutOfMemory = Unit {0}
 BytesFault file e = ⊥
 
 -- A read of one of these files was refused.

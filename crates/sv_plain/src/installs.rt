@@ -1,5 +1,5 @@
 // Making a SuperVersion with the parts that are new in it: all is made, or nothing.
-ghost use Rattle.std.specs.Prelude.{◌≡◌, ◌<◌, ◌∷◌, [], ℕ, IfOk, OnErr, None, Some, length};
+ghost use Rattle.std.specs.Prelude.{◌≡◌, ◌<◌, ◌∷◌, [], IfOk, OnErr, None, Some, length};
 ghost use Rattle.sv_model.specs.declared.MemtableList.{MemtableList};
 ghost use Rattle.sv_model.specs.declared.Version.{Version};
 ghost use Rattle.sv_model.specs.Named.{IsLiveList, IsLiveVersion, HasFile};

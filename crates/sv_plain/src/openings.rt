@@ -1,5 +1,5 @@
 // The store as it begins.
-ghost use Rattle.std.specs.Prelude.{◌≡◌, ◌≤◌, [], ℕ, IfOk};
+ghost use Rattle.std.specs.Prelude.{◌≡◌, ◌≤◌, [], IfOk};
 ghost use Rattle.sv_cells.specs.Calls as cells;
 ghost use Rattle.sv_registry.specs.Calls as supers;
 ghost use Rattle.sv_plain.specs.Installs.{descriptor_of};

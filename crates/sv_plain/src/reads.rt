@@ -1,7 +1,6 @@
 // Reads: the active memtable, then the immutable ones, then the table files, the newest first.
-ghost use Rattle.std.specs.Prelude.{◌≡◌, ◌≤◌, ℕ, List, Option, Some, IfOk, IfErr, All, IsSomeAnd, length, option_and_then, true, false};
+ghost use Rattle.std.specs.Prelude.{◌≡◌, ◌≤◌, Option, Some, IfOk, IfErr, All, IsSomeAnd, length, true, false};
 ghost use Rattle.std.specs.Option.{option_copied};
-ghost use Rattle.sv_model.specs.declared.Write.{Write};
 ghost use Rattle.sv_model.specs.Faults.{RoseBy};
 ghost use Rattle.sv_model.specs.Journal.{look, newest_op, value_of};
 ghost use Rattle.sv_model.specs.Reads.{Serves};

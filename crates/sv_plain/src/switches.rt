@@ -1,5 +1,5 @@
 // A switch: the active memtable becomes immutable, and a new one is active.
-ghost use Rattle.std.specs.Prelude.{◌≡◌, ◌<◌, ◌∷◌, [], IfOk, OnOk, OnErr, length};
+ghost use Rattle.std.specs.Prelude.{◌≡◌, ◌<◌, ◌∷◌, [], IfOk, OnOk, OnErr};
 ghost use Rattle.sv_model.specs.Refusals.{Refuses, first_due};
 ghost use Rattle.sv_cells.specs.Calls.{memtables_refusal};
 ghost use Rattle.sv_registry.specs.Calls.{make_refusal};

@@ -1,10 +1,8 @@
 // Writes: a put or a delete of the lane.
-ghost use Rattle.std.specs.Prelude.{◌≡◌, ◌<◌, ◌∷◌, [], false, true, IfOk, IfErr, OnOk, OnErr, length};
+ghost use Rattle.std.specs.Prelude.{◌≡◌, ◌<◌, false, true, IfOk, IfErr, OnOk, OnErr};
 ghost use Rattle.sv_plain.specs.Follows.{Follows};
-ghost use Rattle.sv_model.specs.Refusals.{Refuses, first_due};
-ghost use Rattle.sv_cells.specs.Calls.{memtables_refusal};
-ghost use Rattle.sv_registry.specs.Calls.{make_refusal};
-ghost use Rattle.sv_plain.specs.Due.{WriteMoment, is_switch_due, stall_fault, write_fault};
+ghost use Rattle.sv_model.specs.Refusals.{Refuses};
+ghost use Rattle.sv_plain.specs.Due.{WriteMoment, is_switch_due, write_fault};
 ghost use Rattle.sv_plain.specs.Settled.{ChangesNothing, IsAfterSwitch, IsWritten};
 ghost use Rattle.sv_plain.specs.Store.{active_rows, write_count};
 ghost use Rattle.sv_plain.specs.Switched.{IsSwitched};

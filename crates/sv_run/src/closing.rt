@@ -2,7 +2,7 @@
 ghost use Rattle.std.specs.Prelude.{◌≡◌, ◌<◌, ◌≤◌, IfOk, IfSome, OnErr, [], ◌∷◌, vec_capacity};
 ghost use Rattle.sv_script.specs.ScriptLaws.{IsWellFormed};
 ghost use Rattle.sv_run.specs.Ends.{HasRun};
-ghost use Rattle.sv_run.specs.Handed.{Directory, IsUntouched};
+ghost use Rattle.sv_run.specs.Handed.{IsUntouched};
 ghost use Rattle.sv_run.specs.Openings.{IsAbove};
 
 use crate::outcomes::Done;

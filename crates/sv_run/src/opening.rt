@@ -1,5 +1,5 @@
 // The opening: which numbers the directory has, so that none is taken again.
-ghost use Rattle.std.specs.Prelude.{◌≡◌, ◌<◌, ◌≤◌, ℕ, All, IfOk, IfSome, string_bytes};
+ghost use Rattle.std.specs.Prelude.{◌≡◌, ◌<◌, ◌≤◌, All, IfOk, IfSome, string_bytes};
 ghost use Rattle.sv_model.specs.Faults.{HasCauseOf};
 ghost use Rattle.sv_dir.specs.TableNames.{number_named};
 ghost use Rattle.sv_run.specs.Openings.{IsAbove};

@@ -1,5 +1,5 @@
 // The script of a source, or how its reading ends.
-ghost use Rattle.std.specs.Prelude.{◌≡◌, ◌≤◌, ℕ, List, Option, IfOk, IfErr, IfSome, None, length};
+ghost use Rattle.std.specs.Prelude.{◌≡◌, ◌≤◌, ℕ, List, IfOk, IfErr, IfSome, None, length};
 ghost use Rattle.sv_script.specs.ScriptLaws.{IsWellFormed};
 ghost use Rattle.sv_run.specs.Ends.{Comes, IsScript};
 ghost use Rattle.sv_run.specs.Handed.{Directory, Input, IsUntouched};

@@ -1,5 +1,5 @@
 // Where a script comes from and where the report goes, as traits that count their faults.
-ghost use Rattle.std.specs.Prelude.{◌<◌, ◌≤◌, ℕ, List, Option, IfOk, length};
+ghost use Rattle.std.specs.Prelude.{◌<◌, ℕ, List, Option, IfOk, length};
 ghost use Rattle.std.specs.Io.{ReadsAtMost, WritesAtMost};
 ghost use Rattle.std.specs.Io.KnownBytes.{ReadConsumes, WriteAppends};
 ghost use Rattle.sv_model.specs.Faults.{HasCause};

@@ -1,6 +1,6 @@
 // The top call.
 ghost use Rattle.std.specs.Prelude.{◌≡◌, ◌≤◌, List, Option, ℕ, IfOk, None, Some, map, string_bytes};
-ghost use Rattle.sv_run.specs.Ends.{Completes, Ends, Follows, IsDueText, report_of, short_text};
+ghost use Rattle.sv_run.specs.Ends.{Completes, Ends, Follows, IsDueText, report_of};
 ghost use Rattle.sv_run.specs.Handed.{Directory, Input};
 ghost use Rattle.sv_run.specs.Statuses.{status_at, status_of_failure};
 ghost use Rattle.sv_run.specs.Transfers.{TakesAtMost};

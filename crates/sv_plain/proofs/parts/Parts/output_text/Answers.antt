@@ -19,8 +19,7 @@ all_rows-requires c =
 pub build-requires-clause-writes : goal.build-requires-clause-writes
 build-requires-clause-writes c =
     let file = c.args.file.now in
-    let p = c.args.self.now in
-    (
+    let p = c.args.self.now in (
       range_of p.journal.items 0 file.from file.to,
       due_count file p c.requires,
       all_written file p c.requires c.as_slice.result.now c.as_slice.ensures.value c.in_ok-rows.rows.items c.deref.result.now c.deref.ensures.value c.in_ok-rows.ensures,
