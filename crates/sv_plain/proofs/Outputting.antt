@@ -17,6 +17,7 @@ use Rattle.sv_model.specs.Refusals.{IsDue}
 use Rattle.sv_model.specs.Registers.{entry, Has}
 use Rattle.sv_model.specs.Books.{Books, FileRegister, files_of}
 use Rattle.sv_model.proofs.Registers.{entry-new}
+use Rattle.sv_model.proofs.Basics.{at_least}
 use Rattle.sv_registry.specs.Calls.{make_refusal}
 use Rattle.sv_plain.specs.declared.parts.Parts.{Parts}
 use Rattle.sv_plain.specs.Due.{FlushMoment}
@@ -103,9 +104,6 @@ is_numbered p file new status o s = record { status = status; numbers = s.number
 due_is : (due : Option Refusal) (e : Refusal) → IsDue due e → (e ≡ refusal.OutOfMemory) ⊎ (due ≡ Some e)
 due_is due refusal.OutOfMemory h = inl refl
 due_is due e h = inr h
-
-at_least : (k n : ℕ) → nat_le k n ≡ true → k ≤ n
-at_least k n e = grind arith
 
 make_by : (b : Books) (all live : Bool) (e : Refusal) → (all ≡ true → WereAllMade b) → (live ≡ true → WereManyLive b) → cond all (Some refusal.RegisterFull) (cond live (Some refusal.TooManyLive) None) ≡ Some e → FlushMoment b e
 make_by b true live e p q h = subst (FlushMoment b) (let f : refusal.RegisterFull ≡ e = cc in f) (inl (p refl))

@@ -22,6 +22,7 @@ use Rattle.sv_model.proofs.Registers.{goes-same, goes-push}
 use Rattle.sv_model.specs.Cells.{Cell}
 use Rattle.sv_files.specs.Calls.{captured_for}
 use Rattle.sv_model.specs.Numbers.{captures}
+use Rattle.sv_model.proofs.Basics.{none_some, at_least}
 use Rattle.sv_plain.specs.declared.immutables.Immutable.{Immutable}
 use Rattle.sv_plain.specs.Immutables.{ImmutablesJoin}
 use Rattle.sv_plain.specs.Due.{FlushMoment, flush_fault, has_rows}
@@ -106,12 +107,6 @@ captured_all numbers = is_count_by captures (λ f. is_some f.family) refl (λ f 
 
 same : {A : Type 0} (x y : A) → Some x ≡ Some y → x ≡ y
 same x y e = cc
-
-none_some : {A : Type 0} (x : A) → None ≡ Some x → ⊥
-none_some x e = absurd (cc)
-
-at_least : (k n : ℕ) → nat_le k n ≡ true → k ≤ n
-at_least k n e = grind arith
 
 moment_of : (b : Books) (nothing full rows all cells live : Bool) (e : Refusal)
     → (nothing ≡ true → WasFlushed b 0 (write_count b)) → (full ≡ true → WereAllNumbered b) → (all ≡ true → WereAllMade b) → (cells ≡ true → WereManyMemtables b) → (live ≡ true → WereManyLive b)

@@ -15,6 +15,7 @@ use Rattle.sv_model.specs.declared.Version.{Version}
 use Rattle.sv_model.specs.Refusals.{IsDue, first_due}
 use Rattle.sv_model.specs.Books.{Books}
 use Rattle.sv_model.specs.Cells.{Cell}
+use Rattle.sv_model.proofs.Basics.{none_some, at_least}
 use Rattle.sv_cells.specs.Calls as cells
 use Rattle.sv_registry.specs.Calls as registry
 use Rattle.sv_plain.specs.declared.immutables.Immutable.{Immutable}
@@ -75,9 +76,6 @@ due_is due e h = inr h
 same : {A : Type 0} (x y : A) → Some x ≡ Some y → x ≡ y
 same x y e = cc
 
-none_some : {A : Type 0} (x : A) → None ≡ Some x → ⊥
-none_some x e = absurd (cc)
-
 moment_of : (b : Books) (stalled full all live : Bool) (e : Refusal)
     → (stalled ≡ true → WasStalled b 0 (reach_of (last_files b))) → (full ≡ true → WereManyMemtables b) → (all ≡ true → WereAllMade b) → (live ≡ true → WereManyLive b)
     → first_due (cond stalled (Some refusal.Stalled) None ∷ cond full (Some refusal.TooManyMemtables) None ∷ cond all (Some refusal.RegisterFull) (cond live (Some refusal.TooManyLive) None) ∷ []) ≡ Some e
@@ -87,9 +85,6 @@ moment_of b false true all live e p q r t h = subst (WriteMoment b) (same refusa
 moment_of b false false true live e p q r t h = subst (WriteMoment b) (same refusal.RegisterFull e h) (r refl)
 moment_of b false false false true e p q r t h = subst (WriteMoment b) (same refusal.TooManyLive e h) (t refl)
 moment_of b false false false false e p q r t h = absurd (none_some e h)
-
-at_least : (k n : ℕ) → nat_le k n ≡ true → k ≤ n
-at_least k n e = grind arith
 
 -- what a refusal of a switch that is due says of the books
 pub write_moment : (b : Books) (reach base serial place list version : ℕ) (active : Cell) (its : List Immutable) (e : Refusal) → Stands b reach base serial place list version active its

@@ -9,7 +9,7 @@ use Rattle.std.proofs.lemmas.Bool.Decides.{nat_tests}
 use Rattle.std.proofs.lemmas.List.Elements.{All-more}
 use Rattle.std.proofs.lemmas.Option.{cond_some}
 use Rattle.std.proofs.lemmas.Str.Parse.{IsNumeralModel, numerals_by_value, tells_all_ascii_digits, digits_value_short}
-use Rattle.sv_model.proofs.SortedRows.{same_eq}
+use Rattle.sv_model.proofs.KeyOrder.{same_eq}
 use Rattle.sv_model.specs.Files.{Files, suffix}
 use Rattle.sv_dir.specs.Files.{ListsEach, same_name}
 use Rattle.sv_dir.specs.TableNames.{stem_of, ending_of, is_spelled, is_file_name, number_named}

@@ -19,6 +19,7 @@ use Rattle.sv_model.specs.Families.{default_family, first_options}
 use Rattle.sv_plain.specs.Store.{top_from}
 use Rattle.sv_run.specs.RunWords.{dir_word}
 use Rattle.sv_model.specs.Flat.{plain}
+use Rattle.sv_model.proofs.Basics.{none_some}
 
 abbrev name : List ℕ
 name = codes "default"
@@ -107,6 +108,7 @@ fits-flush = (
     range = omega arith;
     later = omega arith;
     newer = omega arith;
+    cuts = [];
     output = record {
       captured = (1, record { number = 7; status = Live; family = Some 0 }, refl, record { number_is = refl; family_is = refl });
       covers = record { at = 0; is = refl };
@@ -120,11 +122,8 @@ fits-nothing : ReplyFits true books 0 five (command.Flush name) (reply.Refused r
 fits-nothing = inr (file, record { captured = (1, record { number = 7; status = Live; family = Some 0 }, refl, record { number_is = refl; family_is = refl }); covers = record { at = 0; is = refl }; reaches = omega arith })
 
 -- a stale value, a SuperVersion that begins after the cut, and a file that the lane was shown before do not fit
-none_is_some : {x : List ℕ} → None ≡ Some x → ⊥
-none_is_some e = cc
-
 stale : ReplyFits true books 0 (take 3 five) (command.Get name a) (reply.Found (codes "1") 2 1) → ⊥
-stale h = absurd (none_is_some (h.1.looks.found_is refl))
+stale h = absurd (none_some _ (h.1.looks.found_is refl))
 
 too_new : ReplyFits true books 0 (take 1 five) (command.Get name a) (reply.Found (codes "1") 1 2) → ⊥
 too_new h = absurd (omega (arith, h.1.looks.serves.begins))
