@@ -1,5 +1,5 @@
 -- What a key's row in a file's bytes does.
-use Rattle.std.proofs.Common.{◌≡◌, ◌≤◌, ◌<◌, ◌^◌, ◌-◌, ◌+◌, ℕ, Bool, true, false, cond, List, [], ◌∷◌, find, take, length, Option, Some, None, inl, inr, refl, sym, ap, subst, ◌∙◌, arith}
+use Rattle.std.proofs.Common.{◌≡◌, ◌≤◌, ◌<◌, ◌^◌, ◌-◌, ℕ, Bool, true, false, cond, List, [], ◌∷◌, find, length, Option, Some, None, inl, inr, refl, sym, ap, subst, ◌∙◌, arith}
 use Rattle.std.specs.Prelude.{IsSomeAnd, option_map}
 use Rattle.std.specs.List.{AllByRecursion}
 use Rattle.std.proofs.lemmas.List.{take_all}
@@ -10,11 +10,10 @@ use Rattle.sv_model.specs.declared.Bottom.{Bottom}
 use Rattle.sv_model.specs.declared.FileMeta.{FileMeta}
 use Rattle.sv_model.specs.Flat.{AreCuts, IsFlatOf, plain, range_of}
 use Rattle.sv_model.specs.Journal.{newest_op, of_family}
-use Rattle.sv_model.specs.Order.{first_upto, key_of_kept, end_of_kept}
 use Rattle.sv_model.specs.TableText.{IsStored, IsStoredOp, IsTableFile, IsTextOf}
 use Rattle.sv_model.specs.Files.{Files, file_of}
 use Rattle.sv_model.specs.HeldFiles.{HoldsText, IsFileText}
-use Rattle.sv_model.proofs.FlatReads.{flat_op, op_at}
+use Rattle.sv_model.proofs.FlatReads.{flat_op}
 use Rattle.sv_table.specs.declared.Hit.{Hit}
 use Rattle.sv_table.specs.Lookups.{IsFoundIn, hit_op, op_upto}
 use Rattle.sv_table.specs.Views.{op_is}

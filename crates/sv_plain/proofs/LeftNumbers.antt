@@ -1,9 +1,9 @@
 -- The Obsolete numbers that are still to be tried, ascending.
-use Rattle.std.proofs.Common.{◌≡◌, ◌≢◌, ◌≤◌, ◌<◌, ◌+◌, ◌⊎◌, inl, inr, ⊎_elim, ◌↔◌, ℕ, List, [], ◌∷◌, Option, Some, None, refl, sym, ap, subst, ◌∙◌, arith}
+use Rattle.std.proofs.Common.{◌≡◌, ◌≢◌, ◌≤◌, ◌+◌, ⊎_elim, ◌↔◌, ℕ, List, [], ◌∷◌, Some, None, sym, ap, subst, ◌∙◌, arith}
 use Rattle.sv_model.specs.declared.FileStatus.TheVariants.{Obsolete, Gone}
 use Rattle.sv_model.specs.declared.RegisteredFile.{RegisteredFile}
 use Rattle.sv_model.specs.Lists.{In}
-use Rattle.sv_model.specs.Registers.{entry, change}
+use Rattle.sv_model.specs.Registers.{entry}
 use Rattle.sv_model.specs.Numbers.{AreInOrder, IsMarked, IsRegistered}
 use Rattle.sv_model.proofs.Ascending.{Rises, rises_from, in-here, in-later, in_cons, in_none}
 use Rattle.sv_model.proofs.Registers.{entry_change, entry-else}

@@ -1,13 +1,11 @@
 -- The Obsolete numbers of a register, listed.
-use Rattle.std.proofs.Common.{◌≡◌, ◌≤◌, ◌<◌, ◌+◌, ◌↔◌, ◌⊎◌, ⊎_elim, ℕ, zero, suc, Bool, true, false, cond, List, [], ◌∷◌, map, Some, slice_get, refl, sym, ap, subst, ◌∙◌, arith, inl, inr}
+use Rattle.std.proofs.Common.{◌≡◌, ◌≤◌, ◌+◌, ◌⊎◌, ⊎_elim, ℕ, zero, suc, Bool, true, false, cond, List, [], ◌∷◌, map, refl, sym, ap, subst, ◌∙◌, arith, inl, inr}
 use Rattle.std.specs.List.{filter}
-use Rattle.std.specs.List.Sorted.{IsStrictlyIncreasing}
 use Rattle.sv_model.specs.declared.FileStatus.TheVariants.{Obsolete}
 use Rattle.sv_model.specs.declared.RegisteredFile.{RegisteredFile}
-use Rattle.sv_model.specs.Lists.{In, total, same, times}
-use Rattle.sv_model.specs.Registers.{entry}
+use Rattle.sv_model.specs.Lists.{In, same, times}
 use Rattle.sv_model.specs.Numbers.{AreInOrder, IsRegistered, registered}
-use Rattle.sv_model.specs.Summaries.{ascending, is_obsolete, obsolete_of, obsolete_registered}
+use Rattle.sv_model.specs.Summaries.{is_obsolete, obsolete_of, obsolete_registered}
 use Rattle.sv_model.proofs.Ascending.{ascending_one, in-here, in-later, in_cons, in_none}
 use Rattle.sv_model.proofs.Freed.{distinct_times}
 use Rattle.sv_model.proofs.Registers.{total_entry}

@@ -1,6 +1,6 @@
 -- The file of a flush under way, and what its refusals say.
-use Rattle.std.proofs.Common.{◌≡◌, ◌<◌, ◌≤◌, ◌+◌, ◌⊎◌, inl, inr, ℕ, Bool, true, false, cond, Option, List, [], ◌∷◌, ◌++◌, Some, None, length, slice_get, refl, sym, ◌∙◌, ap, subst, arith}
-use Rattle.std.specs.Prelude.{nat_le, unwrap_or, option_map}
+use Rattle.std.proofs.Common.{◌≡◌, ◌<◌, ◌+◌, ◌⊎◌, inl, inr, ℕ, Bool, true, false, cond, Option, List, [], ◌∷◌, ◌++◌, Some, None, length, slice_get, refl, sym, ◌∙◌, ap, subst, arith}
+use Rattle.std.specs.Prelude.{unwrap_or, option_map}
 use Rattle.sv_model.specs.declared.FileMeta.{FileMeta}
 use Rattle.sv_model.specs.declared.FileStatus.{FileStatus}
 use Rattle.sv_model.specs.declared.FileStatus.TheVariants.{Obsolete}

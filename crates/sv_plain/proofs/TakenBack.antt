@@ -1,7 +1,7 @@
 -- A number that was taken for its removal is given back: as Gone, or as it was.
-use Rattle.std.proofs.Common.{◌≡◌, ◌≢◌, ◌≤◌, ◌+◌, ◌-◌, ◌⊎◌, inl, inr, ⊎_elim, ℕ, zero, suc, List, [], ◌∷◌, Some, slice_get, set, refl, sym, ap, subst, ◌∙◌, arith}
+use Rattle.std.proofs.Common.{◌≡◌, ◌≤◌, ◌-◌, ⊎_elim, ℕ, zero, suc, List, [], ◌∷◌, Some, slice_get, set, refl, sym, ap, subst, ◌∙◌, arith}
 use Rattle.sv_model.specs.declared.FileStatus.{FileStatus}
-use Rattle.sv_model.specs.declared.FileStatus.TheVariants.{Obsolete, Grabbed, Gone}
+use Rattle.sv_model.specs.declared.FileStatus.TheVariants.{Obsolete, Grabbed}
 use Rattle.sv_model.specs.declared.RegisteredFile.{RegisteredFile}
 use Rattle.sv_model.specs.Books.{FileRegister}
 use Rattle.sv_model.specs.Registers.{entry, change}

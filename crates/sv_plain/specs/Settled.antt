@@ -1,5 +1,5 @@
 -- What a call does to the books.
-use Rattle.std.specs.Prelude.{◌≡◌, ◌<◌, ◌++◌, ◌+◌, ◌∷◌, ◌⊎◌, [], ℕ, false, cond, List, Option, Some, None, length}
+use Rattle.std.specs.Prelude.{◌≡◌, ◌<◌, ◌++◌, ◌+◌, ◌∷◌, ◌⊎◌, [], ℕ, cond, List, Option, Some, None, length}
 use Rattle.sv_model.specs.declared.Write.{Write}
 use Rattle.sv_model.specs.declared.Op.{Op}
 use Rattle.sv_model.specs.declared.FileMeta.{FileMeta}

@@ -1,5 +1,5 @@
 -- What always holds of the store: its books beside its memtables.
-use Rattle.std.specs.Prelude.{◌≡◌, ◌≤◌, ◌<◌, ◌+◌, ◌⊎◌, ℕ, true, false, List, [], ◌∷◌, Some, None, All, length, drop, replicate}
+use Rattle.std.specs.Prelude.{◌≡◌, ◌≤◌, ◌<◌, ◌+◌, ◌⊎◌, ℕ, true, List, [], ◌∷◌, Some, None, All, length, drop, replicate}
 use Rattle.sv_model.specs.declared.Write.{Write}
 use Rattle.sv_model.specs.declared.Memtable.{Memtable}
 use Rattle.sv_model.specs.declared.FileMeta.{FileMeta}

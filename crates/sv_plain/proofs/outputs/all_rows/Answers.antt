@@ -1,10 +1,10 @@
 -- The rows of one more memtable.
-use Rattle.std.proofs.Common.{◌≡◌, ◌<◌, ◌+◌, ◌^◌, ◌++◌, List, map, take, length, sym, subst}
+use Rattle.std.proofs.Common.{◌<◌, ◌+◌, ◌^◌, List, take, length, sym, subst}
 use Rattle.std.specs.List.Sorted.{IsPermutation}
 use Rattle.std.proofs.lemmas.List.Elements.{All-from_recursion}
 use Rattle.sv_model.specs.declared.Numbered.{Numbered}
 use Rattle.sv_plain.specs.declared.immutables.Immutable.{Immutable}
-use Rattle.sv_plain.specs.Outputs.{moved, numbered_all}
+use Rattle.sv_plain.specs.Outputs.{numbered_all}
 use Rattle.sv_plain.proofs.OutputTables.{frozen_fits, next_rows}
 use Rattle.sv_plain.proofs.outputs.all_rows.Goals as goal
 

@@ -1,11 +1,6 @@
 -- The number is taken, since nothing is captured or held, and given back.
-use Rattle.std.proofs.Common.{◌≡◌, ap, refl}
-use Rattle.sv_model.specs.declared.FileStatus.TheVariants.{Obsolete, Gone, Grabbed}
-use Rattle.sv_model.specs.declared.RegisteredFile.{RegisteredFile}
-use Rattle.sv_model.specs.Numbers.{IsRegistered}
-use Rattle.sv_model.proofs.Registers.{entry-same}
-use Rattle.sv_files.specs.Calls.{IsTaken}
-use Rattle.sv_model.specs.Books.{FileRegister}
+use Rattle.std.proofs.Common.{refl}
+use Rattle.sv_model.specs.declared.FileStatus.TheVariants.{Obsolete, Gone}
 use Rattle.sv_plain.proofs.TakenBack.{is_grabbed, marks_as, as_before}
 use Rattle.sv_plain.proofs.removals.remove_file.Goals as goal
 

@@ -1,5 +1,5 @@
 -- Each Obsolete number is tried once.
-use Rattle.std.proofs.Common.{◌≡◌, ◌<◌, ◌+◌, ◌∙◌, ℕ, List, ◌∷◌, drop, length, get_or, refl, sym, ap, subst}
+use Rattle.std.proofs.Common.{◌≡◌, ◌<◌, ◌+◌, ◌∙◌, ℕ, List, ◌∷◌, drop, length, get_or, sym, ap, subst}
 use Rattle.std.proofs.lemmas.List.{drop_all, drop_more}
 use Rattle.sv_model.specs.declared.End.{End}
 use Rattle.sv_model.specs.declared.FileStatus.TheVariants.{Obsolete}

@@ -1,14 +1,11 @@
 -- The rows of the memtables are the writes of the file's range, and their flat has its text.
-use Rattle.std.proofs.Common.{◌≡◌, ◌<◌, ◌+◌, ◌^◌, ◌∙◌, List, length, ap, sym, subst}
+use Rattle.std.proofs.Common.{◌≡◌, ◌<◌, ◌+◌, ◌^◌, List, length, sym, subst}
 use Rattle.std.specs.List.{AllByRecursion}
-use Rattle.std.specs.List.Sorted.{IsPermutation}
-use Rattle.sv_model.specs.declared.Numbered.{Numbered}
-use Rattle.sv_model.specs.Flat.{numbered_after, range_of}
+use Rattle.sv_model.specs.Flat.{range_of}
 use Rattle.sv_model.specs.HeldFiles.{IsFileText}
 use Rattle.sv_model.specs.TableText.{HasText, table_text}
 use Rattle.sv_plain.specs.declared.immutables.Immutable.{Immutable}
-use Rattle.sv_plain.specs.Outputs.{numbered_all}
-use Rattle.sv_plain.proofs.OutputTables.{IsBuilt, all_written, both_ok, built_text, built_well, due_count, due_fits, due_rows}
+use Rattle.sv_plain.proofs.OutputTables.{IsBuilt, all_written, both_ok, built_text, built_well, due_count, due_fits}
 use Rattle.sv_plain.proofs.parts.Parts.output_text.Goals as goal
 
 pub all_rows-requires : goal.all_rows-requires

@@ -1,5 +1,5 @@
 -- The numbers that are left are the Obsolete ones, ascending.
-use Rattle.std.proofs.Common.{◌≡◌, ◌∙◌}
+use Rattle.std.proofs.Common.{◌∙◌}
 use Rattle.sv_plain.proofs.ObsoleteNumbers.{left_is}
 use Rattle.sv_plain.proofs.parts.Parts.summary.Goals as goal
 
