@@ -1,5 +1,5 @@
 // The book of file numbers: captures, the bound, holds, and what is handed out for removal.
-ghost use Rattle.std.specs.Prelude.{◌≡◌, ◌≤◌, ◌<◌};
+ghost use Rattle.std.specs.Prelude.{◌<◌};
 
 use std::alloc::Global;
 use std::rt::HostRuntime;
