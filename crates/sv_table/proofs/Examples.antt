@@ -1,10 +1,10 @@
 -- The definitions at four small files.
 use Rattle.std.proofs.Common.{◌≡◌, ℕ, Bool, true, false, List, [], ◌∷◌, refl, Ok, Err, Result, take}
 use Rattle.sv_model.specs.declared.writes.Kept.{Kept}
-use Rattle.sv_model.specs.declared.writes.Op.TheVariants.{Put, Delete}
+use Rattle.sv_model.specs.declared.writes.Op.TheVariants.{Put}
 use Rattle.sv_model.specs.declared.cuts.Bottom.{Bottom}
-use Rattle.sv_model.specs.TableText.{table_text, old_text, text_as, One}
-use Rattle.sv_table.specs.Reading.{◌>>=◌, Header, header_at, entries_in, kept_in, file_at, format_at, range_at, bottom_at, entries_at, entry_at, key_at, end_at, op_at, value_at, tail_at, exact_key_at, each_cut_at, some_cuts_at}
+use Rattle.sv_model.specs.TableText.{table_text}
+use Rattle.sv_table.specs.Reading.{◌>>=◌, header_at, entries_in, kept_in, file_at, format_at, range_at, bottom_at, entries_at, entry_at, key_at, end_at, op_at, value_at, tail_at, exact_key_at, each_cut_at, some_cuts_at}
 
 abbrev bottom : Bool → List ℕ → Bottom
 bottom last cuts = record { last = last; cuts = cuts }

@@ -1,20 +1,19 @@
 -- A whole file that is read is a table's text, and a table's text is read.
-use Rattle.std.proofs.Common.{◌≡◌, ℕ, zero, suc, ◌+◌, ◌-◌, ◌^◌, ◌<◌, ◌≤◌, Bool, true, false, cond, eqb, not, ◌&&◌, ◌||◌, nat_le, nat_lt, List, [], ◌∷◌, ◌++◌, length, map, Result, Ok, Err, ◌⊎◌, inl, inr, refl, sym, ap, subst, ◌∙◌, append_assoc, arith}
-use Rattle.std.specs.List.{flat_map, AllByRecursion}
+use Rattle.std.proofs.Common.{◌≡◌, ℕ, ◌-◌, ◌≤◌, Bool, true, false, cond, eqb, ◌||◌, nat_le, List, [], ◌∷◌, ◌++◌, length, map, Result, Ok, Err, ◌⊎◌, inl, inr, refl, sym, ap, subst, ◌∙◌, arith}
 use Rattle.std.proofs.lemmas.Bool.{eqb-true, leb-true, ltb-true, le-leb, lt-ltb, and_parts, and_from}
 use Rattle.std.proofs.lemmas.List.{append-nil, nil_from_length, length-map}
 use Rattle.sv_model.specs.declared.writes.Kept.{Kept}
 use Rattle.sv_model.specs.declared.cuts.Bottom.{Bottom}
-use Rattle.sv_model.specs.Flat.{ends_of, CutsFrom, AreCuts}
-use Rattle.sv_model.specs.TableText.{Format, One, Two, Three, written, flag, header_text, kept_text, range_text, text_as, table_text, old_text, IsWellFormed, HasText, HasOldText, IsTextOf, IsTableFile}
-use Rattle.sv_model.specs.TableTextFields.{is_flag, is_count, is_length, start}
-use Rattle.sv_table.specs.Reading.{◌>>=◌, Header, Entry, shape_of, seen_after, walked, entries_in, kept_of, kept_in, HasRows, header_at, entries_at, tail_at, ended, file_at}
+use Rattle.sv_model.specs.Flat.{CutsFrom, AreCuts}
+use Rattle.sv_model.specs.TableText.{Format, One, Two, Three, written, flag, header_text, text_as, table_text, old_text, HasText, HasOldText, IsTextOf}
+use Rattle.sv_model.specs.TableTextFields.{is_flag, is_length, start}
+use Rattle.sv_table.specs.Reading.{◌>>=◌, Header, Entry, shape_of, seen_after, walked, entries_in, kept_of, kept_in, HasRows, header_at, tail_at, ended, file_at}
 use Rattle.sv_table.proofs.OneField.{IsBytes}
 use Rattle.sv_table.proofs.Runs.{ok_is}
 use Rattle.sv_table.proofs.Spelling.{bind_ok, bind_path}
 use Rattle.sv_table.proofs.HeaderText.{CutsFit, BottomFits, HeaderFits, text_of, header_spells}
-use Rattle.sv_table.proofs.RowText.{EntriesFrom, EntriesFit, entries_text, entries_spells, tail_text, tail_spells}
-use Rattle.sv_table.proofs.KeptRows.{shape, kept, entry_of, ordered, ends_stand, stored, deletes_cover, texts_same, ranges_same, Few, entries_back, entries_fit}
+use Rattle.sv_table.proofs.RowText.{EntriesFit, entries_text, entries_spells, tail_text, tail_spells}
+use Rattle.sv_table.proofs.KeptRows.{kept, entry_of, ordered, ends_stand, stored, deletes_cover, texts_same, ranges_same, Few, entries_back, entries_fit}
 
 -- ---- the cuts of a format
 

@@ -1,8 +1,7 @@
 -- Rows with the numbers of their ends, and rows with their ends: the rules of fields are those of a table.
-use Rattle.std.proofs.Common.{◌≡◌, ℕ, zero, suc, ◌<◌, ◌≤◌, Bool, true, false, cond, eqb, not, ◌&&◌, ◌||◌, nat_le, nat_lt, List, [], ◌∷◌, ◌++◌, length, map, refl, sym, ap, subst, ◌∙◌, arith, inl, inr}
-use Rattle.std.specs.Prelude.{IsTrue}
+use Rattle.std.proofs.Common.{◌≡◌, ℕ, suc, ◌≤◌, Bool, true, false, eqb, not, ◌&&◌, ◌||◌, nat_le, nat_lt, List, [], ◌∷◌, ◌++◌, length, map, refl, sym, ap, subst, ◌∙◌, arith, inl, inr}
 use Rattle.std.specs.List.{flat_map, AllByRecursion}
-use Rattle.std.proofs.lemmas.Bool.{leb-true, ltb-true, le-leb, ne_eqb, or_left, or_right, or_cases, and_parts, and_from, both_ways}
+use Rattle.std.proofs.lemmas.Bool.{leb-true, ltb-true, le-leb, ne_eqb, or_left, or_right, or_cases, and_parts, and_from}
 use Rattle.std.proofs.lemmas.List.Concat.{flat_map-cons}
 use Rattle.sv_model.specs.declared.writes.Kept.{Kept}
 use Rattle.sv_model.specs.declared.writes.Op.{Op}
@@ -12,11 +11,11 @@ use Rattle.sv_model.specs.Order.{is_below, comes_before, OrderedFrom, OrderedBy,
 use Rattle.sv_model.specs.Flat.{ends_of, CutsFrom}
 use Rattle.sv_model.specs.Lists.{In}
 use Rattle.sv_model.specs.TableText.{Format, One, Two, Three, key_text, end_number, end_text, op_text, kept_text, last_key, range_text, covers, DeletesCover, IsStored}
-use Rattle.sv_model.specs.TableTextFields.{has_cuts, is_length, Shape, Seen, start, first_key, key_fits, number_fits, delete_fits}
+use Rattle.sv_model.specs.TableTextFields.{has_cuts, is_length, Shape, Seen, start, first_key, key_fits, delete_fits}
 use Rattle.sv_model.proofs.KeyOrder.{not_true, same_eq, above, below_other, not_back}
 use Rattle.sv_table.specs.Reading.{Entry, see_entry, seen_after}
 use Rattle.sv_table.proofs.EndNumbers.{end_of, end_back, end_in, end_rises, number_least, number_back, number_rises}
-use Rattle.sv_table.proofs.RowText.{KeyFits, NumberFits, OpFits, EntryFits, EntriesFrom, entry_text, entries_text, tail_text}
+use Rattle.sv_table.proofs.RowText.{KeyFits, NumberFits, OpFits, EntriesFrom, entry_text, entries_text, tail_text}
 
 abbrev before : Kept → Kept → Bool
 before a b = comes_before key_of_kept end_of_kept a b

@@ -1,9 +1,9 @@
 -- Single fields and their texts.
-use Rattle.std.proofs.Common.{◌≡◌, ℕ, zero, suc, ◌^◌, ◌<◌, Bool, true, false, eqb, ◌&&◌, List, [], ◌∷◌, ◌++◌, length, Result, Ok, refl, sym, ap, ◌∙◌, arith}
+use Rattle.std.proofs.Common.{◌≡◌, ℕ, suc, ◌^◌, ◌<◌, Bool, true, List, [], ◌∷◌, length, refl, sym, ap, ◌∙◌, arith}
 use Rattle.std.specs.Int.{w16, w32, w64, from_le_bytes, to_le_bytes}
 use Rattle.std.proofs.lemmas.Nat.{le_bytes_2, le_bytes_4, le_bytes_8, from_le_bytes-to_le_bytes_2, from_le_bytes-to_le_bytes_4, from_le_bytes-to_le_bytes_8}
 use Rattle.sv_model.specs.TableText.{AreBytes}
-use Rattle.sv_model.specs.TableTextFields.{Field, width, meets, byte, IsField}
+use Rattle.sv_model.specs.TableTextFields.{Field, width, meets, byte}
 use Rattle.sv_table.specs.Reading.{checked, number_at, bytes_at, byte_at}
 use Rattle.sv_table.proofs.OneField.{IsBytes, reads_number, reads_any_number, reads_bytes, reads_any_bytes, reads_byte}
 use Rattle.sv_table.proofs.Spelling.{Spells, spells_field}

@@ -12,7 +12,7 @@ use Rattle.sv_model.specs.Order.{first_upto, key_of_kept, end_of_kept}
 use Rattle.sv_model.specs.TableText.{Format, One, Two, Three, IsStoredOp}
 use Rattle.sv_model.specs.TableTextFields.{is_cut, Shape, Seen, start}
 use Rattle.sv_table.specs.Lookups.{found_in}
-use Rattle.sv_table.specs.Reading.{◌>>=◌, Header, Entry, FitsMemory, checked, number_at, each_cut_at, entry_at, entries_at, shape_of, see_entry, seen_after, walked, entries_in, kept_of, kept_in}
+use Rattle.sv_table.specs.Reading.{◌>>=◌, Header, Entry, FitsMemory, checked, number_at, each_cut_at, entry_at, entries_at, shape_of, see_entry, walked, entries_in, kept_of, kept_in}
 use Rattle.sv_table.proofs.OneField.{IsBytes}
 use Rattle.sv_table.proofs.RowText.{NumberFits, entry_text, entry_spells}
 use Rattle.sv_table.proofs.Spelling.{bind_ok}

@@ -1,14 +1,13 @@
 -- The places of a file's rows.
-use Rattle.std.proofs.Common.{◌≡◌, ℕ, zero, suc, ◌+◌, ◌-◌, ◌<◌, ◌≤◌, Bool, true, false, not, ◌&&◌, ◌||◌, eqb, nat_le, nat_lt, List, [], ◌∷◌, ◌++◌, length, get_or, take, drop, map, Option, Some, None, Result, Ok, refl, sym, ap, subst, ◌∙◌, append_assoc, arith}
+use Rattle.std.proofs.Common.{◌≡◌, ℕ, zero, suc, ◌+◌, ◌-◌, ◌<◌, ◌≤◌, Bool, true, false, not, ◌||◌, nat_le, nat_lt, List, [], ◌∷◌, ◌++◌, length, get_or, take, drop, Some, None, Ok, refl, sym, ap, subst, ◌∙◌, append_assoc, arith}
 use Rattle.std.specs.Prelude.{option_map}
 use Rattle.std.proofs.lemmas.Bool.{and_parts, and_from}
 use Rattle.std.proofs.lemmas.List.{drop_at, take_all, take-append-drop, length-append, length-drop}
 use Rattle.std.specs.List.Sorted.{IsPartitionPoint}
 use Rattle.sv_model.specs.declared.writes.Kept.{Kept}
-use Rattle.sv_model.specs.declared.writes.Op.{Op}
-use Rattle.sv_model.specs.declared.writes.Op.TheVariants.{Put, Delete}
+use Rattle.sv_model.specs.declared.writes.Op.TheVariants.{Delete}
 use Rattle.sv_model.specs.Journal.{same_key, is_delete}
-use Rattle.sv_model.specs.Order.{OrderedBy, is_ahead, first_upto, key_of_kept, end_of_kept}
+use Rattle.sv_model.specs.Order.{OrderedBy, is_ahead, key_of_kept, end_of_kept}
 use Rattle.sv_model.specs.TableText.{Format, One, Two, Three}
 use Rattle.sv_model.specs.TableTextFields.{is_length, Shape, Seen, start, key_fits, delete_fits}
 use Rattle.sv_model.proofs.KeyOrder.{not_true}
@@ -18,7 +17,7 @@ use Rattle.sv_table.specs.Places.{Stands, HasRowAt, ArePlaces, HasPlaces}
 use Rattle.sv_table.specs.Reading.{Header, Entry, shape_of, entry_at, kept_of}
 use Rattle.sv_table.proofs.OneField.{IsBytes, bytes_rest}
 use Rattle.sv_table.proofs.Runs.{ok_is}
-use Rattle.sv_table.proofs.RowText.{KeyFits, NumberFits, OpFits, EntryFits, entry_text, entry_spells}
+use Rattle.sv_table.proofs.RowText.{NumberFits, EntryFits, entry_spells}
 
 -- ---- a row read as a first one
 

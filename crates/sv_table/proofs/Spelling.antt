@@ -1,5 +1,5 @@
 -- A reader and a text fit together: what is read is spelled so, and what is spelled so is read.
-use Rattle.std.proofs.Common.{◌≡◌, ℕ, List, [], ◌∷◌, ◌++◌, Result, Ok, Err, refl, sym, ap, subst, ◌∙◌, append_assoc, inl, inr}
+use Rattle.std.proofs.Common.{◌≡◌, ℕ, List, [], ◌++◌, Result, Ok, Err, refl, sym, ap, subst, ◌∙◌, append_assoc, inl, inr}
 use Rattle.sv_model.specs.TableTextFields.{Field, IsField}
 use Rattle.sv_table.specs.Reading.{◌>>=◌}
 use Rattle.sv_table.proofs.OneField.{IsBytes, Reads, again, bytes_text, bytes_rest}

@@ -9,7 +9,7 @@ use Rattle.sv_model.specs.declared.cuts.Bottom.{Bottom}
 use Rattle.sv_model.specs.Journal.{is_delete}
 use Rattle.sv_model.specs.TableText.{Format, One, Two, Three}
 use Rattle.sv_model.specs.TableTextFields.{format_of, has_cuts, Shape, Seen, start, see, Field, Magic, From, To, LastFlag, CutCount, Cut, Count, KeyLength, KeyBytes, EndNumber, OpMark, ValueLength, ValueBytes, LeastLength, LeastKey, GreatestLength, GreatestKey, End, byte, is_magic, is_cut, number_fits, next_cut, next_row, after_flag, after_key, after_rows, IsBadPlace}
-use Rattle.sv_table.specs.Reading.{◌>>=◌, Header, Entry, shape_of, see_entry, seen_after, walked, entries_in, number_at, bytes_at, byte_at, checked, format_at, range_at, each_cut_at, some_cuts_at, bottom_at, header_at, key_at, end_at, value_at, op_at, entry_at, entries_at, exact_key_at, tail_at, ended, file_at}
+use Rattle.sv_table.specs.Reading.{◌>>=◌, Header, Entry, shape_of, see_entry, seen_after, walked, entries_in, number_at, byte_at, checked, format_at, range_at, each_cut_at, some_cuts_at, bottom_at, header_at, key_at, end_at, value_at, op_at, entry_at, entries_at, exact_key_at, tail_at, ended, file_at}
 use Rattle.sv_table.proofs.OneField.{Stuck, reads_number, reads_any_number, reads_bytes, reads_any_bytes, reads_byte}
 use Rattle.sv_table.proofs.Runs.{ok_is, Stops, Walks, stuck_stops, walks_field, walks_then, walks_done}
 use Rattle.sv_table.proofs.Spelling.{bind_ok}

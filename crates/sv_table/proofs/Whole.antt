@@ -1,8 +1,7 @@
 -- What reading a whole file owes.
-use Rattle.std.proofs.Common.{◌≡◌, ℕ, ◌-◌, Bool, true, cond, eqb, List, [], ◌++◌, length, map, Option, Result, Ok, Err, refl, sym, ap, subst, ◌∙◌}
+use Rattle.std.proofs.Common.{◌≡◌, ℕ, ◌-◌, Bool, true, cond, eqb, List, length, map, Option, Result, Ok, Err, sym, ap, subst, ◌∙◌}
 use Rattle.sv_model.specs.declared.writes.Kept.{Kept}
 use Rattle.sv_model.specs.declared.writes.Op.{Op}
-use Rattle.sv_model.specs.declared.cuts.Bottom.{Bottom}
 use Rattle.sv_model.specs.TableText.{IsTextOf, IsTableFile}
 use Rattle.sv_table.specs.Decoding.{IsBadFile, IsHeadOf, IsTable}
 use Rattle.sv_table.specs.Lookups.{op_upto, found_in, IsFoundIn}
@@ -14,7 +13,7 @@ use Rattle.sv_table.specs.declared.heads.Head.{Head}
 use Rattle.sv_table.proofs.OneField.{IsBytes}
 use Rattle.sv_table.proofs.Runs.{ok_is}
 use Rattle.sv_table.proofs.HeaderText.{text_of}
-use Rattle.sv_table.proofs.FileText.{IsRead, IsReadAs, file_takes, file_again, rows_are, same_rows, texts_are}
+use Rattle.sv_table.proofs.FileText.{IsReadAs, file_takes, file_again, rows_are, same_rows, texts_are}
 use Rattle.sv_table.proofs.Spelling.{bind_path}
 use Rattle.sv_table.proofs.Stops.{bad_place}
 

@@ -1,13 +1,13 @@
 -- What is written is the text, part by part.
-use Rattle.std.proofs.Common.{◌≡◌, ℕ, zero, suc, ◌+◌, ◌-◌, ◌<◌, ◌≤◌, Bool, true, false, List, [], ◌∷◌, ◌++◌, length, get_or, take, Some, None, Result, refl, sym, ap, subst, ◌∙◌, append_assoc, arith}
+use Rattle.std.proofs.Common.{◌≡◌, ℕ, ◌+◌, ◌-◌, ◌<◌, ◌≤◌, true, false, List, [], ◌∷◌, ◌++◌, length, get_or, take, Some, None, Result, refl, sym, ap, ◌∙◌, arith}
 use Rattle.std.specs.Prelude.{slice_get, OnOk}
 use Rattle.std.specs.Int.{w64, to_le_bytes}
 use Rattle.std.specs.List.{flat_map}
-use Rattle.std.proofs.lemmas.List.{take_all, take_more, flat_map_more, append-nil}
+use Rattle.std.proofs.lemmas.List.{take_all, take_more, flat_map_more}
 use Rattle.std.proofs.lemmas.Result.{on_ok_weaker}
 use Rattle.sv_model.specs.declared.writes.Kept.{Kept}
 use Rattle.sv_model.specs.declared.writes.Row.{Row}
-use Rattle.sv_model.specs.TableText.{Format, One, Two, Three, cuts_text, end_text, key_text, range_text, last_key, IsStored, IsStoredOp, AreBytes}
+use Rattle.sv_model.specs.TableText.{Format, One, Two, Three, cuts_text, key_text, range_text, last_key, IsStored, IsStoredOp, AreBytes}
 use Rattle.sv_model.specs.TableTextFields.{has_cuts}
 
 some_is : (x y : Kept) → Some x ≡ Some y → x ≡ y

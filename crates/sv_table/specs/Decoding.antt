@@ -1,7 +1,6 @@
 -- What reading a whole file answers.
 use Rattle.std.specs.Prelude.{◌≡◌, ℕ, List, ◌++◌, length, Ok}
 use Rattle.sv_model.specs.declared.writes.Kept.{Kept}
-use Rattle.sv_model.specs.declared.cuts.Bottom.{Bottom}
 use Rattle.sv_model.specs.TableText.{IsTextOf, IsTableFile}
 use Rattle.sv_model.specs.TableTextFields.{IsBadPlace}
 use Rattle.sv_table.specs.Reading.{Header, HasRows, entries_in, kept_in}

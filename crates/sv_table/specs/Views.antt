@@ -1,5 +1,5 @@
 -- What the code's own records are, seen as those of the reader.
-use Rattle.std.specs.Prelude.{◌≡◌, ℕ, List, Result, Ok, Err}
+use Rattle.std.specs.Prelude.{◌≡◌, ℕ, Result, Ok, Err}
 use Rattle.sv_model.specs.TableText as text
 use Rattle.sv_model.specs.TableTextFields as fields
 use Rattle.sv_model.specs.declared.writes.Op.{Op}

@@ -1,5 +1,5 @@
 // Reading a table's text into memory.
-ghost use Rattle.std.specs.Prelude.{◌≡◌, ◌≤◌, ℕ, List, Ok, IfOk, IfErr, length};
+ghost use Rattle.std.specs.Prelude.{◌≡◌, ◌≤◌, Ok, IfOk, IfErr, length};
 ghost use Rattle.sv_model.specs.TableText.{IsTextOf};
 ghost use Rattle.sv_table.specs.Decoding.{IsRefused};
 ghost use Rattle.sv_table.specs.Reading.{HasRows, FitsMemory, entries_in, kept_in, kept_of};

@@ -1,8 +1,7 @@
 // Writing a table's text.
-ghost use Rattle.std.specs.Prelude.{◌≡◌, ◌++◌, ◌<◌, ◌≤◌, ◌^◌, ◌∷◌, [], ℕ, List, length, IfOk, OnOk};
-ghost use Rattle.std.specs.Int.{w64, to_le_bytes};
-ghost use Rattle.std.specs.List.{flat_map};
-ghost use Rattle.sv_model.specs.TableText.{AreBytes, HasText, IsStored, IsStoredOp, IsWellFormed, flag, magic, cuts_text, end_number, end_text, header_text, key_text, kept_text, range_text, op_text, table_text};
+ghost use Rattle.std.specs.Prelude.{◌≡◌, ◌++◌, ◌<◌, ◌≤◌, ◌^◌, length, IfOk, OnOk};
+ghost use Rattle.std.specs.Int.{to_le_bytes};
+ghost use Rattle.sv_model.specs.TableText.{AreBytes, HasText, IsStored, IsStoredOp, IsWellFormed, flag, cuts_text, end_number, end_text, header_text, key_text, kept_text, range_text, op_text, table_text};
 ghost use Rattle.sv_table.specs.Views.{format_is};
 
 use crate::formats::{Format, format_of, has_cuts, magic_of};

@@ -1,5 +1,4 @@
 // Reading one field.
-ghost use Rattle.std.specs.Prelude.{◌≡◌, List, length};
 ghost use Rattle.std.specs.Int.{w16, w32, w64};
 ghost use Rattle.sv_table.specs.Reading.{bytes_at, number_at, byte_at};
 ghost use Rattle.sv_table.specs.Views.{Gives};

@@ -1,5 +1,5 @@
 // Reading a header.
-ghost use Rattle.std.specs.Prelude.{◌≡◌, ◌≤◌, ◌&&◌, ◌||◌, ℕ, length, nat_lt, nat_le};
+ghost use Rattle.std.specs.Prelude.{◌≡◌, ◌≤◌, ◌&&◌, ◌||◌};
 ghost use Rattle.sv_model.specs.TableTextFields.{is_count, is_cut, is_length};
 ghost use Rattle.std.specs.Int.{w64};
 ghost use Rattle.sv_table.specs.Reading.{checked, number_at, range_at, each_cut_at, some_cuts_at, bottom_at, header_at};

@@ -1,7 +1,6 @@
 // Checking a file's bytes.
 ghost use Rattle.std.specs.Prelude.{◌≡◌, IfOk, IfErr};
 ghost use Rattle.sv_table.specs.Decoding.{IsHeadOf, IsBadFile};
-ghost use Rattle.sv_table.specs.Views.{header_is};
 
 use crate::faults::Bad;
 use crate::headers::Header;

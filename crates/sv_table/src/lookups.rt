@@ -1,5 +1,5 @@
 // Looking up a key in a file's bytes.
-ghost use Rattle.std.specs.Prelude.{◌≡◌, ◌≤◌, ◌&&◌, ℕ, List, length, nat_le, slice_index};
+ghost use Rattle.std.specs.Prelude.{◌≡◌, ◌≤◌, ◌&&◌, length, nat_le, slice_index};
 ghost use Rattle.sv_model.specs.Flat.{ends_of};
 ghost use Rattle.sv_model.specs.Journal.{same_key};
 ghost use Rattle.sv_model.specs.TableText.{IsTableFile};

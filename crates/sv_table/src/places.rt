@@ -11,7 +11,7 @@ ghost use Rattle.sv_table.specs.Views.{header_is, entry_is};
 use crate::headers::Header;
 use crate::hits::Hit;
 use crate::lookups::end_of;
-use crate::rows::{RowAt, Seen, entry_at, see, shape_of, start};
+use crate::rows::{RowAt, entry_at, see, shape_of, start};
 use std::alloc::Global;
 use std::cmp::Ordering;
 use sv_model::OutOfMemory;

@@ -1,6 +1,5 @@
 // Reading a row.
-ghost use Rattle.std.specs.Prelude.{◌≡◌, ◌&&◌, ℕ, List, []};
-ghost use Rattle.sv_model.specs.Journal.{is_delete};
+ghost use Rattle.std.specs.Prelude.{◌≡◌, ◌&&◌, []};
 ghost use Rattle.sv_model.specs.TableTextFields.{start, key_fits, number_fits, mark_fits};
 ghost use Rattle.sv_table.specs.Reading.{key_at, end_at, value_at, op_at, entry_at, see_entry, shape_of};
 ghost use Rattle.sv_table.specs.Views.{Gives, header_is, shape_is, seen_is, op_is, entry_is};

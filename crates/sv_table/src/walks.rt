@@ -1,5 +1,5 @@
 // Going over a whole file's fields.
-ghost use Rattle.std.specs.Prelude.{◌≡◌, ℕ, List, IfOk};
+ghost use Rattle.std.specs.Prelude.{IfOk};
 ghost use Rattle.sv_model.specs.TableTextFields.{start};
 ghost use Rattle.sv_table.specs.Decoding.{IsTable};
 ghost use Rattle.sv_table.specs.Reading.{walked, entries_in, exact_key_at, tail_at, file_at};

@@ -1,4 +1,4 @@
-use Rattle.std.proofs.Common.{◌≡◌, ◌-◌}
+use Rattle.std.proofs.Common.{◌≡◌}
 use Rattle.sv_model.specs.TableTextFields.{Seen}
 use Rattle.sv_table.specs.Reading.{entries_in, kept_in}
 use Rattle.sv_table.specs.Views.{header_is, shape_is}

@@ -1,5 +1,5 @@
-use Rattle.std.proofs.Common.{◌≡◌, ℕ, List, ◌++◌, sym, ap, ◌∙◌, append_assoc}
-use Rattle.sv_model.specs.TableText.{key_text, range_text}
+use Rattle.std.proofs.Common.{ℕ, List, ◌++◌, sym, ap, ◌∙◌, append_assoc}
+use Rattle.sv_model.specs.TableText.{key_text}
 use Rattle.sv_table.specs.Views.{format_is}
 use Rattle.sv_table.proofs.WrittenText.{range_written}
 use Rattle.sv_table.proofs.encoding.put_range.Goals as goal

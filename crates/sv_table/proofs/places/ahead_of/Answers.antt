@@ -1,4 +1,4 @@
-use Rattle.std.proofs.Common.{◌≡◌, ◌+◌, ◌-◌, ◌/◌, ◌<◌, ◌≤◌, length, sym, ◌∙◌, arith}
+use Rattle.std.proofs.Common.{◌+◌, ◌-◌, ◌/◌, ◌<◌, ◌≤◌, length, sym, ◌∙◌, arith}
 use Rattle.sv_table.specs.Reading.{kept_of}
 use Rattle.sv_table.specs.Views.{header_is, entry_is}
 use Rattle.sv_table.proofs.PlaceText.{row_at, at_first, goes_up, goes_down}

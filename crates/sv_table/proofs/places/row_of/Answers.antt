@@ -1,4 +1,4 @@
-use Rattle.std.proofs.Common.{ℕ, List, Ok, ◌≡◌, sym, subst, drop, arith}
+use Rattle.std.proofs.Common.{ℕ, List, Ok, ◌≡◌, subst, drop, arith}
 use Rattle.sv_table.specs.Reading.{entry_at}
 use Rattle.sv_table.specs.Views.{header_is, shape_is, seen_is, entry_is}
 use Rattle.sv_table.proofs.Loops.{row_facts, within_cuts}

@@ -1,6 +1,6 @@
-use Rattle.std.proofs.Common.{◌≡◌, ◌-◌, ℕ, List, Ok, Err, length, subst, sym, ap, ◌∙◌}
+use Rattle.std.proofs.Common.{◌≡◌, ℕ, List, Ok, Err, length, subst, sym, ap, ◌∙◌}
 use Rattle.sv_model.specs.declared.writes.Kept.{Kept}
-use Rattle.sv_table.specs.Decoding.{IsTable, IsBadFile}
+use Rattle.sv_table.specs.Decoding.{IsTable}
 use Rattle.sv_table.specs.Places.{ArePlaces}
 use Rattle.sv_table.specs.Reading.{entries_in, file_at, kept_in}
 use Rattle.sv_table.specs.Views.{header_is}
