@@ -290,8 +290,8 @@ file_again bytes from to b rows t =
 -- ---- one table of a text
 
 -- the rows that stand at the front of the bytes
-pub rows_are : (h : Header) (rest : List ℕ) (s : HasRows h rest) (rows : List Kept) → map (kept_of h) s.entries ≡ rows → kept_in h (entries_in h rest) ≡ Ok rows
-rows_are h rest s rows e = ap (kept_in h) s.are ∙ ap (λ (l : List Kept). Ok l) e
+pub rows_are : (h : Header) (more : List ℕ) (s : HasRows h more) (rows : List Kept) → map (kept_of h) s.entries ≡ rows → kept_in h (entries_in h more) ≡ Ok rows
+rows_are h more s rows e = ap (kept_in h) s.are ∙ ap (λ (l : List Kept). Ok l) e
 
 abbrev kepts : List Kept → Result (List Kept) ℕ
 kepts x = Ok x
@@ -299,8 +299,8 @@ kepts x = Ok x
 kepts_is : (x y : List Kept) → kepts x ≡ kepts y → x ≡ y
 kepts_is x y e = cc
 
-pub same_rows : (h : Header) (rest : List ℕ) (rows others : List Kept) → kept_in h (entries_in h rest) ≡ Ok rows → kept_in h (entries_in h rest) ≡ Ok others → rows ≡ others
-same_rows h rest rows others e f = kepts_is rows others (sym e ∙ f)
+pub same_rows : (h : Header) (more : List ℕ) (rows others : List Kept) → kept_in h (entries_in h more) ≡ Ok rows → kept_in h (entries_in h more) ≡ Ok others → rows ≡ others
+same_rows h more rows others e f = kepts_is rows others (sym e ∙ f)
 
 pub record IsSame (from to : ℕ) (b : Bottom) (rows : List Kept) (from' to' : ℕ) (b' : Bottom) (rows' : List Kept) : Type 0 where
   pub from_is : from ≡ from'
