@@ -1,5 +1,5 @@
 // The lists ever made, and how many live ones name each memtable.
-ghost use Rattle.std.specs.Prelude.{◌≡◌, ℕ, ◌+◌, ◌<◌, ◌≤◌, ◌++◌, ◌∷◌, [], List, length, drop, Some, IsTrue, ◌↔◌, OnErr, IfOk};
+ghost use Rattle.std.specs.Prelude.{◌≡◌, ◌+◌, ◌<◌, ◌≤◌, ◌++◌, ◌∷◌, [], List, length, drop, Some, IsTrue, ◌↔◌, OnErr, IfOk};
 ghost use Rattle.sv_model.specs.declared.records.MemtableList.{MemtableList};
 ghost use Rattle.sv_model.specs.Named.{IsLiveList, HasMember};
 ghost use Rattle.sv_model.specs.Registers.{entry, Has};

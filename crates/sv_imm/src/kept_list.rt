@@ -1,5 +1,5 @@
 // A list as a record of a register of holders: it names its members.
-ghost use Rattle.std.specs.Prelude.{◌≡◌, ◌+◌, ◌<◌, ◌≤◌, ◌++◌, ◌∷◌, [], length, true, refl};
+ghost use Rattle.std.specs.Prelude.{◌≡◌, ◌<◌, true};
 ghost use Rattle.sv_imm.specs.Changes.{live_list};
 
 use arrayvec::ArrayVec;

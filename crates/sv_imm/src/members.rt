@@ -1,5 +1,5 @@
 // The members of the list that follows another.
-ghost use Rattle.std.specs.Prelude.{◌≡◌, ℕ, ◌+◌, ◌<◌, ◌≤◌, ◌++◌, ◌∷◌, [], length, drop, false, refl, IfOk};
+ghost use Rattle.std.specs.Prelude.{◌≡◌, ◌+◌, ◌<◌, ◌++◌, ◌∷◌, [], length, drop, IfOk};
 
 use std::alloc::Global;
 use sv_model::{MemId, OutOfMemory};
