@@ -1,5 +1,5 @@
 // A Version as a record of a register of holders: it names its files by their numbers.
-ghost use Rattle.std.specs.Prelude.{◌≡◌, ◌+◌, ◌<◌, ◌≤◌, ◌++◌, ◌∷◌, [], length, true, refl, IfOk};
+ghost use Rattle.std.specs.Prelude.{◌≡◌, ◌<◌, ◌≤◌, [], length, true, IfOk};
 ghost use Rattle.sv_version.specs.Changes.{live_version};
 
 use std::alloc::Global;
