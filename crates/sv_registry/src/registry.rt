@@ -1,5 +1,5 @@
 // The registry: every SuperVersion ever made, and by place the Live one that stands there.
-ghost use Rattle.std.specs.Prelude.{◌≡◌, ◌+◌, ◌*◌, ◌∷◌, ◌++◌, [], ◌<◌, ◌↔◌, length, count_by, not, true, IsTrue, IfOk, OnErr, Some, None, cond, nat_le};
+ghost use Rattle.std.specs.Prelude.{◌≡◌, ◌+◌, ◌*◌, ◌∷◌, ◌++◌, [], ◌<◌, ◌↔◌, length, count_by, not, true, IsTrue, IfOk, OnErr, Some, None, cond};
 ghost use Rattle.std.specs.Option.{option_copied, option_map};
 ghost use Rattle.sv_model.specs.declared.records.SuperVersion.{SuperVersion};
 ghost use Rattle.sv_model.specs.declared.refusals.Refusal.TheVariants.{RegisterFull, TooManyLive};
