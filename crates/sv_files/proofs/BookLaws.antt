@@ -1,12 +1,12 @@
 -- What holds of a book's fields, after each call.
-use Rattle.std.proofs.Common.{◌≡◌, ◌<◌, ◌≤◌, ℕ, zero, suc, map, replicate, ◌+◌, ◌⊎◌, ◌↔◌, inl, inr, true, false, cond, List, [], ◌∷◌, ◌++◌, length, Option, Some, None, is_some, slice_get, set, refl, sym, ap, ◌∙◌, subst, arith, length-set}
+use Rattle.std.proofs.Common.{◌≡◌, ◌<◌, ◌≤◌, ℕ, zero, suc, map, replicate, ◌+◌, ◌↔◌, cond, List, Some, None, is_some, slice_get, set, refl, sym, ◌∙◌, subst, arith, length-set}
 use Rattle.std.proofs.lemmas.Option.{slice_get_within}
 use Rattle.sv_model.specs.declared.records.RegisteredFile.{RegisteredFile}
 use Rattle.sv_model.specs.declared.records.FileStatus.{FileStatus}
-use Rattle.sv_model.specs.declared.records.FileStatus.TheVariants.{Pending, Live, Obsolete, Grabbed, Gone}
+use Rattle.sv_model.specs.declared.records.FileStatus.TheVariants.{Pending, Obsolete, Grabbed}
 use Rattle.sv_model.specs.Books.{FileRegister}
 use Rattle.sv_model.specs.Lists.{In}
-use Rattle.sv_model.specs.Numbers.{AreInOrder, FilesStand, IsReady, least_captured, IsMarked, IsRegistered, IsSettled, MarksOnly, NumbersStand, captures, registered}
+use Rattle.sv_model.specs.Numbers.{AreInOrder, FilesStand, IsReady, least_captured, IsMarked, IsRegistered, MarksOnly, NumbersStand, captures}
 use Rattle.sv_model.proofs.Lists.{total-push}
 use Rattle.sv_files.specs.Kept.{IsFileBook}
 use Rattle.sv_files.specs.Calls.{IsTaken, Settles, captured_for, grab, opened}

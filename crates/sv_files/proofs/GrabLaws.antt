@@ -1,5 +1,5 @@
 -- Numbers grabbed one after the other.
-use Rattle.std.proofs.Common.{◌≡◌, ◌≢◌, ◌<◌, ◌≤◌, ◌==◌, ◌||◌, ℕ, zero, suc, ◌+◌, ◌⊎◌, inl, inr, ⊎_elim, ◌↔◌, Bool, true, false, cond, List, [], ◌∷◌, ◌++◌, length, map, Option, Some, None, option_map, is_some, slice_get, set, take, refl, sym, ap, ◌∙◌, subst, arith}
+use Rattle.std.proofs.Common.{◌≡◌, ◌≢◌, ◌<◌, ◌≤◌, ◌==◌, ◌||◌, ℕ, zero, suc, ◌+◌, ◌⊎◌, inl, inr, ⊎_elim, Bool, true, false, cond, List, [], ◌∷◌, ◌++◌, map, Option, Some, None, option_map, is_some, slice_get, set, refl, sym, ap, ◌∙◌, subst, arith}
 use Rattle.std.specs.List.{list_any}
 use Rattle.std.proofs.lemmas.Bool.{false≢true}
 use Rattle.std.proofs.lemmas.Bool.Decides.{nat_tests}
@@ -7,12 +7,12 @@ use Rattle.std.proofs.lemmas.Option.{slice_get-map}
 use Rattle.sv_model.specs.declared.records.RegisteredFile.{RegisteredFile}
 use Rattle.sv_model.specs.declared.records.FileStatus.{FileStatus}
 use Rattle.sv_model.specs.declared.records.FileStatus.TheVariants.{Pending, Grabbed}
-use Rattle.sv_model.specs.Lists.{In, same, total}
+use Rattle.sv_model.specs.Lists.{In, same}
 use Rattle.sv_model.specs.Numbers.{IsMarked, IsRegistered, NumbersStand, captures, registered}
 use Rattle.sv_model.specs.Registers.{entry, change}
-use Rattle.sv_model.proofs.Lists.{same_here, same_other}
+use Rattle.sv_model.proofs.Lists.{same_here}
 use Rattle.sv_files.specs.Calls.{grab}
-use Rattle.sv_files.proofs.Registered.{apart_or, some_is, with_status, registered-at}
+use Rattle.sv_files.proofs.Registered.{some_is, with_status, registered-at}
 
 -- ---- whether a number was found
 abbrev pub is_in : ℕ → List ℕ → Bool

@@ -1,11 +1,11 @@
 -- What is kept beside the numbers, after a push, the end of the last one, and a new status.
-use Rattle.std.proofs.Common.{◌≡◌, ◌≢◌, ℕ, zero, suc, ◌+◌, ◌<◌, ◌≤◌, ◌⊎◌, inl, inr, ⊎_elim, ◌↔◌, Bool, true, false, cond, List, [], ◌∷◌, ◌++◌, length, get_or, Option, Some, None, IsSome, IsTrue, is_some, slice_get, set, arith, refl, sym, ap, subst, ◌∙◌, length-set, length-append}
+use Rattle.std.proofs.Common.{◌≡◌, ◌≢◌, ℕ, suc, ◌+◌, ◌<◌, ◌≤◌, inl, inr, ⊎_elim, ◌↔◌, Bool, false, cond, List, [], ◌∷◌, ◌++◌, length, get_or, Option, Some, None, IsTrue, is_some, slice_get, set, arith, refl, sym, ap, subst, ◌∙◌, length-set, length-append}
 use Rattle.std.specs.Prelude.{if◌then◌else◌}
 use Rattle.std.specs.List.Sorted.{IsStrictlyIncreasing}
 use Rattle.std.specs.Ordering.{nat_cmp, is_eq}
 use Rattle.std.specs.BTreeMap.{BTreeMap, get, UpdatesBy}
 use Rattle.std.proofs.lemmas.Bool.Decides.{nat_tests}
-use Rattle.std.proofs.lemmas.Option.{get_or_from_slice_get, slice_get_within}
+use Rattle.std.proofs.lemmas.Option.{get_or_from_slice_get}
 use Rattle.std.specs.VecDeque.{deque_len}
 use Rattle.std.specs.declared.collections.VecDeque.{VecDeque}
 use Rattle.std.specs.declared.alloc.Global.{Global}
@@ -13,13 +13,13 @@ use Rattle.sv_model.specs.declared.records.RegisteredFile.{RegisteredFile}
 use Rattle.sv_model.specs.declared.records.FileStatus.{FileStatus}
 use Rattle.sv_model.specs.declared.records.FileStatus.TheVariants.{Obsolete}
 use Rattle.sv_model.specs.Lists.{In}
-use Rattle.sv_model.specs.Numbers.{AreInOrder, IsMarked, IsRegistered, registered}
+use Rattle.sv_model.specs.Numbers.{AreInOrder, IsRegistered, registered}
 use Rattle.sv_model.specs.Registers.{entry}
 use Rattle.sv_model.specs.Summaries.{is_obsolete}
 use Rattle.sv_model.proofs.Lists.{total-push, total-set}
 use Rattle.sv_model.proofs.Registers.{entry-old, entry-new, entry_push, entry-same, entry-else, entry_change}
-use Rattle.sv_files.specs.Kept.{AreKept, KeepsPositions, count_obsolete}
-use Rattle.sv_files.proofs.Registered.{apart_or, some_is, with_status, registered-at, at_registered, one_place, status-is, registered-some, obsolete-is, count-le, once_push, once-front, push_is, push-old, push-new, registered_mark, mark_is, mark-other, mark-new}
+use Rattle.sv_files.specs.Kept.{AreKept, KeepsPositions}
+use Rattle.sv_files.proofs.Registered.{apart_or, some_is, with_status, registered-at, at_registered, status-is, registered-some, obsolete-is, count-le, once_push, once-front, push_is, push-old, push-new, registered_mark, mark_is, mark-other, mark-new}
 
 -- ---- the map
 other_key : (k q : ℕ) → k ≢ q → is_eq (nat_cmp k q) ≡ false

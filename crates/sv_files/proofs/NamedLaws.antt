@@ -1,10 +1,8 @@
 -- Named numbers, each Live.
-use Rattle.std.proofs.Common.{◌≡◌, ◌<◌, ◌≤◌, ℕ, zero, suc, ◌+◌, ◌⊎◌, inl, inr, ⊎_elim, List, [], ◌∷◌, ◌++◌, length, get_or, map, replicate, take, Option, Some, None, is_some, slice_get, refl, sym, ap, ◌∙◌, subst, arith}
-use Rattle.std.proofs.lemmas.List.{take_more}
-use Rattle.std.proofs.lemmas.Option.{slice_get-get_or, slice_get_within}
+use Rattle.std.proofs.Common.{◌≡◌, ◌<◌, ◌≤◌, ℕ, zero, suc, ◌+◌, ◌⊎◌, ⊎_elim, List, [], ◌∷◌, length, map, replicate, take, Some, None, slice_get, refl, sym, ap, ◌∙◌, subst, arith}
 use Rattle.sv_model.specs.declared.records.RegisteredFile.{RegisteredFile}
 use Rattle.sv_model.specs.declared.records.FileStatus.TheVariants.{Pending, Live, Grabbed}
-use Rattle.sv_model.specs.Lists.{Distinct, In, same, times}
+use Rattle.sv_model.specs.Lists.{In, same, times}
 use Rattle.sv_model.specs.Numbers.{NumbersStand, captures, registered}
 use Rattle.sv_model.specs.Registers.{entry}
 use Rattle.sv_model.proofs.Lists.{in_times}

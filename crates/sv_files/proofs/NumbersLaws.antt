@@ -1,13 +1,10 @@
 -- The laws of file numbers are kept by a new status, by the end of a capture and by a capture.
-use Rattle.std.proofs.Common.{◌≡◌, ◌≢◌, ◌<◌, ◌≤◌, ℕ, zero, suc, ◌+◌, replicate, ◌⊎◌, inl, inr, ⊎_elim, true, false, List, [], ◌∷◌, ◌++◌, length, Option, Some, None, is_some, slice_get, set, refl, sym, ap, ◌∙◌, subst, arith, length-set}
-use Rattle.std.proofs.lemmas.Bool.{false≢true}
+use Rattle.std.proofs.Common.{◌≡◌, ◌≢◌, ◌<◌, ◌≤◌, ℕ, zero, suc, ◌+◌, replicate, ◌⊎◌, inl, inr, ⊎_elim, List, [], ◌∷◌, ◌++◌, length, Option, Some, None, is_some, slice_get, set, refl, sym, ap, ◌∙◌, subst, arith}
 use Rattle.sv_model.specs.declared.records.RegisteredFile.{RegisteredFile}
 use Rattle.sv_model.specs.declared.records.FileStatus.{FileStatus}
-use Rattle.sv_model.specs.declared.records.FileStatus.TheVariants.{Pending, Live, Obsolete, Grabbed, Gone}
-use Rattle.sv_model.specs.Books.{FileRegister}
-use Rattle.sv_model.specs.Numbers.{FilesStand, HasStatus, IsCapture, IsMarked, IsRegistered, IsSettled, NumbersStand, captures, least_captured, registered}
-use Rattle.sv_model.specs.Registers.{entry, change, Has}
-use Rattle.sv_model.proofs.Lists.{total-push}
+use Rattle.sv_model.specs.declared.records.FileStatus.TheVariants.{Pending, Grabbed}
+use Rattle.sv_model.specs.Numbers.{IsMarked, IsRegistered, NumbersStand, captures, least_captured, registered}
+use Rattle.sv_model.specs.Registers.{entry, change}
 use Rattle.sv_model.proofs.Registers.{entry-old, entry-new, entry_push, entry-same, entry-else, entry_change}
 use Rattle.sv_files.proofs.Registered.{apart_or, some_is, with_status, one_entry, status-is, once_push, registered-at, registered_mark, captures_mark}
 

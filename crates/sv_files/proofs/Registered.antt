@@ -1,14 +1,14 @@
 -- Numbers that are registered once: where they stand, and what a push and a new status leave.
-use Rattle.std.proofs.Common.{◌≡◌, ◌≢◌, ℕ, zero, suc, ◌+◌, ◌<◌, ◌≤◌, ◌⊎◌, inl, inr, ⊎_elim, ◌↔◌, Bool, true, false, cond, List, [], ◌∷◌, ◌++◌, length, Option, Some, None, is_some, slice_get, set, arith, refl, sym, ap, subst, ◌∙◌, length-set}
+use Rattle.std.proofs.Common.{◌≡◌, ◌≢◌, ℕ, zero, suc, ◌+◌, ◌<◌, ◌≤◌, ◌⊎◌, inl, inr, ◌↔◌, Bool, true, false, cond, List, [], ◌∷◌, ◌++◌, length, Some, is_some, slice_get, arith, refl, sym, ap, ◌∙◌}
 use Rattle.std.specs.Prelude.{if◌then◌else◌}
 use Rattle.sv_model.specs.declared.records.RegisteredFile.{RegisteredFile}
 use Rattle.sv_model.specs.declared.records.FileStatus.{FileStatus}
 use Rattle.sv_model.specs.declared.records.FileStatus.TheVariants.{Pending, Live, Obsolete, Grabbed, Gone}
 use Rattle.sv_model.specs.Lists.{total, same}
-use Rattle.sv_model.specs.Numbers.{HasStatus, IsRegistered, captures, registered}
-use Rattle.sv_model.specs.Registers.{entry, change, Has}
+use Rattle.sv_model.specs.Numbers.{IsRegistered, captures, registered}
+use Rattle.sv_model.specs.Registers.{entry, change}
 use Rattle.sv_model.specs.Summaries.{is_obsolete}
-use Rattle.sv_model.proofs.Lists.{total-push, total_at, at_total, total-set, same_here, same_other, same_is}
+use Rattle.sv_model.proofs.Lists.{total-push, total_at, at_total, same_here, same_other, same_is}
 use Rattle.sv_model.proofs.Registers.{entry-old, entry-new, entry_push, entry-same, entry-else, entry_change}
 use Rattle.sv_files.specs.Kept.{count_obsolete}
 

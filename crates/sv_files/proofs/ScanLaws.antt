@@ -1,11 +1,11 @@
 -- What a scan finds, and that the laws of numbers stand with the strays registered.
-use Rattle.std.proofs.Common.{◌≡◌, ◌≢◌, ◌<◌, ◌≤◌, ◌↔◌, ℕ, zero, suc, ◌+◌, ◌⊎◌, inl, inr, ⊎_elim, false, true, cond, min, List, [], ◌∷◌, ◌++◌, length, map, Option, Some, None, is_some, slice_get, refl, sym, ap, ◌∙◌, subst, arith}
+use Rattle.std.proofs.Common.{◌≡◌, ◌<◌, ◌≤◌, ◌↔◌, ℕ, zero, suc, ◌+◌, ◌⊎◌, inl, inr, ⊎_elim, true, cond, min, List, [], ◌∷◌, ◌++◌, map, Option, Some, is_some, slice_get, refl, sym, ap, ◌∙◌, subst, arith}
 use Rattle.std.proofs.lemmas.Bool.{false≢true}
 use Rattle.sv_model.specs.declared.records.RegisteredFile.{RegisteredFile}
 use Rattle.sv_model.specs.declared.records.FileStatus.TheVariants.{Pending, Obsolete, Grabbed}
 use Rattle.sv_model.specs.Books.{FileRegister}
-use Rattle.sv_model.specs.Lists.{Distinct, In, IsChosen, same, times, total}
-use Rattle.sv_model.specs.Numbers.{AreInOrder, IsReady, IsRegistered, NumbersStand, captures, least_captured, registered}
+use Rattle.sv_model.specs.Lists.{Distinct, In, times}
+use Rattle.sv_model.specs.Numbers.{IsReady, IsRegistered, NumbersStand, captures, least_captured, registered}
 use Rattle.sv_model.specs.Registers.{entry}
 use Rattle.sv_model.proofs.Freed.{chosen-same}
 use Rattle.sv_model.proofs.Lists.{total-append, in_times, times_in, same_here, same_other}

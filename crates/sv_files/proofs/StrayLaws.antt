@@ -1,9 +1,9 @@
 -- Strays registered one after the other.
-use Rattle.std.proofs.Common.{◌≡◌, ◌<◌, ◌≤◌, ℕ, zero, suc, ◌+◌, List, [], ◌∷◌, ◌++◌, length, get_or, take, drop, map, Some, refl, sym, ap, ◌∙◌, arith, append_assoc, length-append}
+use Rattle.std.proofs.Common.{◌≡◌, ◌<◌, ◌≤◌, ℕ, suc, ◌+◌, List, [], ◌∷◌, ◌++◌, length, get_or, take, map, Some, refl, sym, ap, ◌∙◌, arith, append_assoc, length-append}
 use Rattle.std.proofs.lemmas.List.{take_more}
 use Rattle.std.proofs.lemmas.Option.{slice_get-get_or}
 use Rattle.sv_model.specs.declared.records.RegisteredFile.{RegisteredFile}
-use Rattle.sv_model.specs.Lists.{In, IsChosen, same, times, total}
+use Rattle.sv_model.specs.Lists.{In, same, times}
 use Rattle.sv_model.specs.Numbers.{registered}
 use Rattle.sv_model.proofs.Lists.{total-append, in_times, times_in}
 use Rattle.sv_files.specs.Kept.{AddsStrays, obsolete_stray}

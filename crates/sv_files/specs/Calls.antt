@@ -1,5 +1,5 @@
 -- What the calls of a book of file numbers give and leave.
-use Rattle.std.specs.Prelude.{◌≡◌, ◌+◌, ◌<◌, ◌≤◌, ◌==◌, ◌||◌, ◌++◌, ◌∷◌, ◌⊎◌, ℕ, Bool, if◌then◌else◌, nat_le, nat_lt, List, [], Option, Some, None, map, replicate, length, sum, slice_get, slice_set, slice_index}
+use Rattle.std.specs.Prelude.{◌≡◌, ◌+◌, ◌<◌, ◌≤◌, ◌==◌, ◌||◌, ◌++◌, ◌∷◌, ◌⊎◌, ℕ, Bool, if◌then◌else◌, nat_le, nat_lt, List, [], Option, Some, None, map, replicate, length, sum, slice_get, slice_set}
 use Rattle.std.specs.List.{list_any}
 use Rattle.sv_model.specs.declared.records.RegisteredFile.{RegisteredFile}
 use Rattle.sv_model.specs.declared.records.FileStatus.{FileStatus}

@@ -1,5 +1,5 @@
 -- What is kept beside the numbers.
-use Rattle.std.specs.Prelude.{◌≡◌, ◌<◌, ◌≤◌, ◌++◌, ℕ, if◌then◌else◌, List, Option, Some, None, slice_get, length, map, min}
+use Rattle.std.specs.Prelude.{◌≡◌, ◌<◌, ◌≤◌, ◌++◌, ℕ, if◌then◌else◌, List, Some, None, slice_get, length, map, min}
 use Rattle.std.specs.Ordering.{nat_cmp}
 use Rattle.std.specs.BTreeMap.{BTreeMap, get}
 use Rattle.sv_model.specs.declared.records.RegisteredFile.{RegisteredFile}

@@ -1,5 +1,5 @@
 // The book of file numbers.
-ghost use Rattle.std.specs.Prelude.{◌≡◌, ◌≤◌, ◌<◌, [], ◌∷◌, ◌++◌, ℕ, Some, None, IfOk, OnErr, MatchOption, slice_get, map, if◌then◌else◌};
+ghost use Rattle.std.specs.Prelude.{◌≡◌, ◌≤◌, ◌<◌, [], Some, None, IfOk, OnErr, MatchOption, slice_get, map, if◌then◌else◌};
 ghost use Rattle.sv_model.specs.declared.records.FileStatus.TheVariants as status;
 ghost use Rattle.sv_model.specs.declared.refusals.Refusal.TheVariants.{RegisterFull};
 ghost use Rattle.sv_model.specs.Numbers.{FilesStand, IsRegistered, MarksOnly, captures, least_captured, registered};

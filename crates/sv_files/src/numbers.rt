@@ -1,11 +1,9 @@
 // Every file number ever registered, with its status.
-ghost use Rattle.std.specs.Prelude.{◌≡◌, ◌≢◌, ◌+◌, ◌<◌, ◌≤◌, ◌↔◌, ◌++◌, ◌∷◌, [], ℕ, Some, IsTrue, IsSome, IfOk, OnOk, OnErr, MatchOption, length, take};
+ghost use Rattle.std.specs.Prelude.{◌≡◌, ◌+◌, ◌<◌, ◌≤◌, ◌↔◌, ◌++◌, ◌∷◌, [], ℕ, Some, IsTrue, IsSome, IfOk, OnOk, OnErr, MatchOption, length, take};
 ghost use Rattle.std.specs.Ordering.{nat_cmp};
 ghost use Rattle.std.specs.BTreeMap.{get};
 ghost use Rattle.std.specs.VecDeque.{deque_len, deque_capacity};
-ghost use Rattle.std.specs.List.Sorted.{IsStrictlyIncreasing};
 ghost use Rattle.sv_model.specs.declared.records.FileStatus.TheVariants.{Obsolete};
-ghost use Rattle.sv_model.specs.Lists.{In};
 ghost use Rattle.sv_model.specs.Numbers.{AreInOrder, IsMarked, IsRegistered, registered};
 ghost use Rattle.sv_model.specs.Summaries.{is_obsolete};
 

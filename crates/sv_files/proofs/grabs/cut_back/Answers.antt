@@ -1,4 +1,4 @@
-use Rattle.std.proofs.Common.{◌≡◌, ◌+◌, ◌∷◌, [], ◌++◌, length, take, arith, ap, length-append}
+use Rattle.std.proofs.Common.{◌∷◌, [], length, arith, ap, length-append}
 use Rattle.sv_files.proofs.StrayLaws.{take-front}
 use Rattle.sv_files.proofs.grabs.cut_back.Goals as goal
 

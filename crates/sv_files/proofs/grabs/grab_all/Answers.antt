@@ -1,6 +1,5 @@
-use Rattle.std.proofs.Common.{◌≡◌, ◌<◌, ℕ, List, map, take, ◌++◌, ◌∷◌, [], slice_get, Some, arith, sym, ap, subst, ◌∙◌}
+use Rattle.std.proofs.Common.{ℕ, List, map, take, ◌++◌, ◌∷◌, [], arith, sym, ap, subst, ◌∙◌}
 use Rattle.sv_model.specs.declared.records.RegisteredFile.{RegisteredFile}
-use Rattle.sv_model.specs.Lists.{In}
 use Rattle.sv_model.specs.Numbers.{IsMarked, registered}
 use Rattle.sv_files.specs.Calls.{grab}
 use Rattle.sv_files.proofs.GrabLaws.{grab-none, grab_more, registered-grab}

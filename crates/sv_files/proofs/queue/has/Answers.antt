@@ -1,4 +1,4 @@
-use Rattle.std.proofs.Common.{◌↔◌, Bool, true, false, Ok, Err, Result, is_ok, IsTrue, ℕ, List, arith, sym, subst, refl}
+use Rattle.std.proofs.Common.{◌↔◌, Bool, Ok, Err, Result, is_ok, IsTrue, ℕ, List, sym, subst, refl}
 use Rattle.sv_model.specs.Lists.{In}
 use Rattle.sv_files.proofs.Rising.{Searches, search-rising, found-in, missed-in}
 use Rattle.sv_files.proofs.queue.has.Goals as goal

@@ -1,4 +1,4 @@
-use Rattle.std.proofs.Common.{◌≡◌, ◌+◌, ◌≤◌, Ok, Err, arith, sym, subst, length, List, ℕ, refl}
+use Rattle.std.proofs.Common.{◌≡◌, ◌≤◌, Ok, Err, arith, sym, subst}
 use Rattle.std.specs.List.{insert}
 use Rattle.std.specs.List.Sorted.{IsStrictlyIncreasing}
 use Rattle.std.specs.VecDeque.{deque_len, deque_capacity}

@@ -1,10 +1,9 @@
-use Rattle.std.proofs.Common.{◌≡◌, ◌<◌, ◌+◌, ℕ, List, map, refl, arith, sym, ap, subst, ◌∙◌}
+use Rattle.std.proofs.Common.{◌+◌, ℕ, List, refl, arith, sym, ap, subst}
 use Rattle.sv_model.specs.Books.{FileRegister}
 use Rattle.sv_model.specs.declared.records.RegisteredFile.{RegisteredFile}
 use Rattle.sv_model.specs.declared.records.FileStatus.TheVariants.{Obsolete}
 use Rattle.sv_model.specs.Lists.{In}
-use Rattle.sv_model.specs.Numbers.{IsReady, IsRegistered, least_captured}
-use Rattle.sv_files.specs.Calls.{grab}
+use Rattle.sv_model.specs.Numbers.{IsReady}
 use Rattle.sv_files.specs.Kept.{IsFileBook}
 use Rattle.sv_files.proofs.Registered.{registered-some}
 use Rattle.sv_files.proofs.BookLaws.{book-grabbed}

@@ -1,4 +1,4 @@
-use Rattle.std.proofs.Common.{◌≡◌, List, [], sym, subst, arith}
+use Rattle.std.proofs.Common.{List, [], sym, subst, arith}
 use Rattle.sv_model.specs.Numbers.{FilesStand}
 use Rattle.sv_model.specs.declared.records.RegisteredFile.{RegisteredFile}
 use Rattle.sv_files.specs.Calls.{opened}

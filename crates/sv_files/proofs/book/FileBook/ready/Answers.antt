@@ -1,7 +1,4 @@
-use Rattle.std.proofs.Common.{◌≡◌, ◌<◌, ◌↔◌, ℕ, arith, sym, ap, subst, ◌∙◌}
-use Rattle.sv_model.specs.Books.{FileRegister}
-use Rattle.sv_model.specs.declared.records.FileStatus.TheVariants.{Obsolete}
-use Rattle.sv_model.specs.Numbers.{AreInOrder, IsReady, IsRegistered}
+use Rattle.sv_model.specs.Numbers.{IsReady}
 use Rattle.sv_files.proofs.BookLaws.{in-order-map, ready-is}
 use Rattle.sv_files.proofs.book.FileBook.ready.Goals as goal
 

@@ -1,6 +1,5 @@
 use Rattle.std.proofs.Common.{◌≡◌, refl}
-use Rattle.sv_model.specs.Books.{FileRegister}
-use Rattle.sv_model.specs.declared.records.FileStatus.TheVariants.{Pending, Live, Obsolete, Grabbed}
+use Rattle.sv_model.specs.declared.records.FileStatus.TheVariants.{Live, Obsolete, Grabbed}
 use Rattle.sv_model.specs.Numbers.{IsRegistered, MarksOnly}
 use Rattle.sv_files.proofs.Registered.{registered-some}
 use Rattle.sv_files.proofs.BookLaws.{book-marked, here, marks-only, there}

@@ -1,8 +1,8 @@
-use Rattle.std.proofs.Common.{◌≡◌, ℕ, Some, None, sym, ap, subst, ◌∙◌, arith}
+use Rattle.std.proofs.Common.{◌≡◌, Some, sym, ap, ◌∙◌, arith}
 use Rattle.sv_model.specs.declared.records.RegisteredFile.{RegisteredFile}
 use Rattle.sv_model.specs.declared.records.FileStatus.{FileStatus}
 use Rattle.sv_model.specs.declared.records.FileStatus.TheVariants.{Pending, Live, Obsolete, Grabbed}
-use Rattle.sv_model.specs.Numbers.{IsMarked, IsRegistered}
+use Rattle.sv_model.specs.Numbers.{IsRegistered}
 use Rattle.sv_files.specs.declared.settled.Settled.{Settled}
 use Rattle.sv_files.specs.declared.settled.Settled.TheVariants as settled
 use Rattle.sv_files.specs.Calls.{Settles, settled_status}

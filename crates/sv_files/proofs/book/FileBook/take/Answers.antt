@@ -1,7 +1,7 @@
-use Rattle.std.proofs.Common.{◌≡◌, ◌<◌, ℕ, refl, arith, sym, ap, subst, ◌∙◌}
+use Rattle.std.proofs.Common.{◌<◌, refl, arith, ap}
 use Rattle.sv_model.specs.Books.{FileRegister}
 use Rattle.sv_model.specs.Numbers.{least_captured}
-use Rattle.sv_model.specs.declared.records.FileStatus.TheVariants.{Pending, Obsolete, Grabbed}
+use Rattle.sv_model.specs.declared.records.FileStatus.TheVariants.{Obsolete, Grabbed}
 use Rattle.sv_files.specs.Calls.{IsTaken}
 use Rattle.sv_files.proofs.Registered.{registered-some}
 use Rattle.sv_files.proofs.BookLaws.{book-job, book-marked, taken, there}

@@ -1,7 +1,7 @@
-use Rattle.std.proofs.Common.{◌≡◌, ℕ, Bool, true, false, sym, subst, ◌∙◌}
+use Rattle.std.proofs.Common.{◌≡◌, Bool, true, false, sym, ◌∙◌}
 use Rattle.sv_model.specs.declared.records.FileStatus.{FileStatus}
 use Rattle.sv_model.specs.declared.records.FileStatus.TheVariants.{Pending, Obsolete, Grabbed, Gone}
-use Rattle.sv_model.specs.Numbers.{IsMarked, IsRegistered, MarksOnly}
+use Rattle.sv_model.specs.Numbers.{IsRegistered, MarksOnly}
 use Rattle.sv_files.specs.Calls.{ungrabbed}
 use Rattle.sv_files.proofs.Registered.{registered-some}
 use Rattle.sv_files.proofs.BookLaws.{book-marked, here, marks-only, there}

@@ -1,4 +1,4 @@
-use Rattle.std.proofs.Common.{◌≡◌, ◌+◌, ◌<◌, ◌≤◌, ◌↔◌, Bool, cond, IsTrue, IsSome, Some, Option, ℕ, suc, List, length, get_or, slice_get, set, arith, refl, sym, ap, subst, ◌∙◌, length-set}
+use Rattle.std.proofs.Common.{◌≡◌, ◌<◌, ◌↔◌, Bool, IsTrue, IsSome, Option, ℕ, suc, List, set, arith, refl, sym, ap, subst, ◌∙◌}
 use Rattle.std.specs.VecDeque.{deque_capacity, deque_len}
 use Rattle.std.proofs.lemmas.Option.{get_or_from_slice_get, slice_get_within}
 use Rattle.sv_model.specs.declared.records.RegisteredFile.{RegisteredFile}

@@ -1,8 +1,6 @@
-use Rattle.std.proofs.Common.{◌≡◌, ◌<◌, ◌≤◌, ℕ, zero, suc, List, length, take, IfOk, OnErr, Ok, Err, Result, Vec, arith, refl, sym, ap, subst, ◌∙◌, get_or, slice_get}
-use Rattle.std.specs.List.Sorted.{IsStrictlyIncreasing}
+use Rattle.std.proofs.Common.{◌<◌, List, take, arith, sym, subst}
 use Rattle.sv_model.specs.declared.records.RegisteredFile.{RegisteredFile}
 use Rattle.sv_model.specs.declared.records.FileStatus.TheVariants.{Obsolete}
-use Rattle.sv_model.specs.Lists.{In}
 use Rattle.sv_model.specs.Numbers.{AreInOrder, IsRegistered}
 use Rattle.sv_files.proofs.Rising.{take_rising, first-in}
 use Rattle.sv_files.proofs.Answered.{ok-map, err-map}

@@ -1,7 +1,7 @@
-use Rattle.std.proofs.Common.{◌≡◌, ◌+◌, ◌↔◌, ◌∷◌, [], ◌++◌, ℕ, Bool, false, IsTrue, None, length, List, arith, refl, sym, ap, subst, ◌∙◌}
+use Rattle.std.proofs.Common.{◌≡◌, ◌+◌, ◌↔◌, ◌∷◌, [], ◌++◌, ℕ, Bool, false, IsTrue, None, length, List, refl, sym, subst}
 use Rattle.std.specs.BTreeMap.{UpdatesBy}
 use Rattle.std.specs.Ordering.{nat_cmp}
-use Rattle.std.specs.VecDeque.{deque_capacity, deque_len}
+use Rattle.std.specs.VecDeque.{deque_capacity}
 use Rattle.sv_model.specs.declared.records.RegisteredFile.{RegisteredFile}
 use Rattle.sv_model.specs.Lists.{In}
 use Rattle.sv_model.specs.Summaries.{is_obsolete}
