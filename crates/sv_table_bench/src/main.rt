@@ -1,26 +1,32 @@
-//! Measures the encoding, decoding and checking of tables, and looking up keys in them. `sv_table_bench ROWS` prints
-//! the rows or look-ups a second of each; and `sv_table_bench ROWS quiet` only checks that a table is encoded to its
+//! Measures the encoding, decoding, checking and merging of tables, and looking up keys in them. `sv_table_bench ROWS`
+//! prints the rows or look-ups a second of each; `sv_table_bench ROWS TABLES` what a row takes in a merge of so many
+//! tables, which have so many rows together; and `sv_table_bench ROWS quiet` only checks that a table is encoded to its
 //! bytes and that each key is found.
 #![tactic(auto)]
 
 mod faults;
 mod measures;
+mod merges;
 mod samples;
 
 use faults::Fault;
+use samples::Keys;
 use std::alloc::AllocError;
 use std::env;
 use std::io::ErrorKind;
 use std::process::ExitCode;
 use std::rt::Clock;
 
-const USAGE: &str = "usage: sv_table_bench ROWS [quiet], with 1 to 1000000 rows";
+const USAGE: &str =
+    "usage: sv_table_bench ROWS [quiet | TABLES], with 1 to 1000000 rows and 1 to 1000 tables";
 
 /// What is asked for.
 #[derive(Clone, Copy)]
 enum Measure {
     /// Each call in turn.
     Calls,
+    /// Merges of so many tables.
+    Merges(u32),
     /// Nothing, but to check the answers.
     Quiet,
 }
@@ -58,6 +64,7 @@ fn asked(words: &[String]) -> Option<Task> {
     let (rows, measure) = match words {
         [rows] => (rows, Measure::Calls),
         [rows, word] if word.as_str() == "quiet" => (rows, Measure::Quiet),
+        [rows, tables] => (rows, Measure::Merges(number(tables.as_str(), 1000)?)),
         _ => return None,
     };
     Some(Task {
@@ -69,13 +76,19 @@ fn asked(words: &[String]) -> Option<Task> {
 fn perform(rt: &(impl Clock + Print + AllocGlobal), task: Task) -> Result<(), Fault> {
     let rows = task.rows;
     let alloc = rt.alloc();
+    let keys = Keys {
+        first: 0,
+        step: 1,
+        count: rows,
+    };
     match task.measure {
+        Measure::Merges(tables) => merges::of_tables(rt, alloc, rows, tables),
         Measure::Quiet => {
-            samples::check(alloc, &samples::text(alloc, rows)?)?;
+            samples::check(alloc, &samples::text(alloc, 0, keys)?)?;
             println!(rt; "rows {rows} ok")?;
             Ok(())
         }
-        Measure::Calls => measures::all(rt, alloc, &samples::text(alloc, rows)?, rows),
+        Measure::Calls => measures::all(rt, alloc, &samples::text(alloc, 0, keys)?, rows),
     }
 }
 

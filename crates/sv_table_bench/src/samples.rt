@@ -20,19 +20,27 @@ pub fn digits(number: u32) -> [u8; 8] {
     digits
 }
 
-/// The bytes of a table with a put under each key from 0 on, so many of them.
-pub fn text(alloc: Global, count: u32) -> Result<Vec<u8>, AllocError> {
+/// The numbers that a table has as keys: so many from the first on, each so far above the one before.
+#[derive(Clone, Copy)]
+pub struct Keys {
+    pub first: u32,
+    pub step: u32,
+    pub count: u32,
+}
+
+/// The bytes of a table that covers the writes from `from + 1` on: a put under each of the keys.
+pub fn text(alloc: Global, from: u64, keys: Keys) -> Result<Vec<u8>, AllocError> {
     let mut text = Vec::new(alloc);
-    let from: u64 = 0;
-    let to = u64::from(count);
+    let to = from.saturating_add(u64::from(keys.count));
     text.extend_from_slice(b"SVTABLE1")?;
     text.extend_from_slice(&from.to_le_bytes())?;
     text.extend_from_slice(&to.to_le_bytes())?;
     text.push(0)?;
-    text.extend_from_slice(&count.to_le_bytes())?;
-    for row in 0..count {
+    text.extend_from_slice(&keys.count.to_le_bytes())?;
+    for row in 0..keys.count {
         text.push(8)?;
-        text.extend_from_slice(&digits(row))?;
+        let leap = row.saturating_mul(keys.step);
+        text.extend_from_slice(&digits(keys.first.saturating_add(leap)))?;
         text.extend_from_slice(&[1, 16, 0])?;
         text.extend_from_slice(&VALUE)?;
     }

@@ -1,26 +1,33 @@
 // The place of the first bad field: the cases worked out by hand, and each front and each changed byte of small files
-// against a plain reader.
-use crate::reader::{Stop, read};
+// against a plain reader, which also tells the same table of bytes that are still one.
+use crate::reader::{PlainRow, PlainTable, Stop, read};
 use crate::texts::{COVERED, CUT, DELETES, EMPTY, LAST, OLD, PLAIN, RENEWED};
 use std::alloc::Global;
 use std::test::*;
-use sv_table::{Bad, DecodeError, check, decode};
+use sv_model::{Kept, Op, Table};
+use sv_table::{Bad, Checked, DecodeError, check, decode};
 
-/// What `decode` and `check` tell of bytes: a place, or none where they are a table's text.
-fn place(alloc: Global, bytes: &[u8]) -> Result<Option<u64>, Fail> {
-    let decoded = match decode(alloc, bytes) {
-        Ok(_) => None,
-        Err(DecodeError::Bad { place }) => Some(place),
+/// The place that reading tells, or none where the bytes are a table's text.
+fn place_of<T: Drop>(read: Result<T, DecodeError>) -> Result<Option<u64>, Fail> {
+    match read {
+        Ok(_) => Ok(None),
+        Err(DecodeError::Bad { place }) => Ok(Some(place)),
         Err(DecodeError::OutOfMemory) => Err("no memory")?,
-    };
+    }
+}
+
+/// What all ways to read bytes tell of them: a place, or none where they are a table's text.
+fn place(alloc: Global, bytes: &[u8]) -> Result<Option<u64>, Fail> {
+    let decoded = place_of(decode(alloc, bytes))?;
+    let kept = place_of(Checked::new(bytes.to_vec(alloc)?))?;
     let checked = match check(bytes) {
         Ok(_) => None,
         Err(Bad { place }) => Some(place),
     };
-    if decoded != checked {
-        Err("decode and check tell different places")?;
+    if decoded != checked || kept != checked {
+        Err("different places are told")?;
     }
-    Ok(decoded)
+    Ok(checked)
 }
 
 /// The bytes with one of them changed.
@@ -103,13 +110,35 @@ fn places_by_hand(rt: HostRuntime) -> Result<(), Fail> {
     Ok(())
 }
 
-fn agrees(alloc: Global, bytes: &[u8]) -> Result<bool, Fail> {
-    let wanted = match read(alloc, bytes) {
-        Ok(_) => None,
-        Err(Stop::Bad(at)) => Some(at as u64),
-        Err(Stop::Memory) => Err("no memory")?,
+fn same_row(kept: &Kept, row: &PlainRow<'_>) -> bool {
+    let value = match &kept.row.op {
+        Op::Put(value) => Some(value.as_bytes()),
+        Op::Delete => None,
     };
-    Ok(place(alloc, bytes)? == wanted)
+    kept.end == row.end && kept.row.key.as_bytes() == row.key && value == row.value
+}
+
+fn same_table(table: &Table, plain: &PlainTable<'_>) -> bool {
+    let rows = table.rows.as_slice();
+    (table.from, table.to, table.bottom.last) == (plain.from, plain.to, plain.last)
+        && table.bottom.cuts.as_slice() == plain.cuts.as_slice()
+        && rows.len() == plain.rows.len()
+        && rows
+            .iter()
+            .zip(plain.rows.as_slice())
+            .all(|(kept, row)| same_row(kept, row))
+}
+
+/// The plain reader tells the same place, or the same table.
+fn agrees(alloc: Global, bytes: &[u8]) -> Result<bool, Fail> {
+    match read(alloc, bytes) {
+        Ok(plain) => match (place(alloc, bytes)?, decode(alloc, bytes)) {
+            (None, Ok(table)) => Ok(same_table(&table, &plain)),
+            _ => Ok(false),
+        },
+        Err(Stop::Bad(at)) => Ok(place(alloc, bytes)? == Some(at as u64)),
+        Err(Stop::Memory) => Err("no memory")?,
+    }
 }
 
 /// Each front of the text, and each byte of it set to each value.

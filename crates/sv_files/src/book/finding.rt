@@ -1,9 +1,9 @@
 // Handing out Obsolete numbers and strays for removal, and taking them back.
-ghost use Rattle.std.specs.Prelude.{◌≡◌, ◌<◌, ◌+◌, ◌-◌, ◌++◌, ◌↔◌, ℕ, IfOk, OnErr, OnOk, IsTrue, IsFalse, map, if◌then◌else◌};
+ghost use Rattle.std.specs.Prelude.{◌≡◌, ◌<◌, ◌+◌, ◌-◌, ◌↔◌, ℕ, IfOk, OnErr, IsTrue, IsFalse};
 ghost use Rattle.sv_model.specs.declared.records.FileStatus.TheVariants as status;
 ghost use Rattle.sv_model.specs.Numbers.{AreInOrder, IsReady, IsRegistered, MarksOnly};
 ghost use Rattle.sv_model.specs.Refusals.{Refuses, RefusesExactly};
-ghost use Rattle.sv_files.specs.Calls.{IsFound, IsScanned, IsTaken, MayBeTaken, disabled, grab, ungrabbed};
+ghost use Rattle.sv_files.specs.Calls.{IsFound, IsScanned, IsTaken, MayBeTaken, disabled, ungrabbed};
 
 use super::FileBook;
 use crate::grabs::{find_with_strays, grab_all};
