@@ -1,5 +1,5 @@
 // The words after a command.
-ghost use Rattle.std.specs.Prelude.{◌≡◌, map};
+ghost use Rattle.std.specs.Prelude.{map};
 ghost use Rattle.sv_script.specs.Reading.{Gives};
 ghost use Rattle.sv_script.specs.Commands.{
   alone,
