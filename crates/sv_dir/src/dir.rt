@@ -1,5 +1,5 @@
 // The directory as its users see it: four calls, the files that it holds, and how often it failed.
-ghost use Rattle.std.specs.Prelude.{◌≡◌, ℕ, List, map, Option, OnOk, IfOk, IfSome, IsErrOf, string_bytes};
+ghost use Rattle.std.specs.Prelude.{◌≡◌, ℕ, map, Option, OnOk, IfOk, IfSome, IsErrOf, string_bytes};
 ghost use Rattle.sv_model.specs.Faults.{HasCauseOf};
 ghost use Rattle.sv_model.specs.Files.{Files, file_of};
 ghost use Rattle.sv_dir.specs.Files.{PutsFile, LeavesAny, RemovesFile, MayRemove, ListsEach, Finds, removal_of};

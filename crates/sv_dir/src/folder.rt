@@ -1,5 +1,5 @@
 // A folder of the machine as a directory.
-ghost use Rattle.std.specs.Prelude.{◌≡◌, ◌≤◌, IsTrue};
+ghost use Rattle.std.specs.Prelude.{◌≡◌, ◌≤◌};
 ghost use Rattle.sv_model.specs.Faults.{Rose};
 
 use crate::dir::{Dir, DirError, Found, Removal};

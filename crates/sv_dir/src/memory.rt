@@ -1,12 +1,12 @@
 // A directory in memory that fails where it is told to.
-ghost use Rattle.std.specs.Prelude.{◌≡◌, ◌≤◌, ℕ, List, map, Option, Some, None, OnOk, OnErr, IfOk, IfErr, IfSome, IsErrOf, string_bytes};
+ghost use Rattle.std.specs.Prelude.{◌≡◌, ◌≤◌, map, Option, Some, None, OnOk, OnErr, IfOk, IsErrOf, string_bytes};
 ghost use Rattle.std.specs.List.Sorted.{IsStrictlySortedBy};
 ghost use Rattle.std.specs.Ordering.{nat_cmp};
 ghost use Rattle.std.specs.Cmp.Lexicographic.{slice_cmp};
 ghost use Rattle.std.specs.String.{string_cmp};
 ghost use Rattle.std.specs.BTreeMap.{keys, IsOrdered};
 ghost use Rattle.sv_model.specs.Faults.{HasCauseOf};
-ghost use Rattle.sv_model.specs.Files.{file_name as name_of, Files, file_of, with_file};
+ghost use Rattle.sv_model.specs.Files.{file_name as name_of, file_of, with_file};
 ghost use Rattle.sv_dir.specs.Files.{PutsFile, LeavesAny, RemovesFile, MayRemove, ListsEach, Finds, removal_of};
 ghost use Rattle.sv_dir.specs.Fails.{FailsWhere, UnlessMemory, put_as, remove_as};
 
