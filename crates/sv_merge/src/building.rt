@@ -1,5 +1,5 @@
 // Building a table from the writes of a range.
-ghost use Rattle.std.specs.Prelude.{◌≡◌, ◌+◌, ℕ, false, ◌++◌, List, length, map, IfOk};
+ghost use Rattle.std.specs.Prelude.{◌≡◌, ◌+◌, false, List, length, map, IfOk};
 ghost use Rattle.std.specs.List.Sorted.{IsNonDecreasing, IsPermutation};
 ghost use Rattle.sv_model.specs.declared.writes.Row.{Row};
 ghost use Rattle.sv_model.specs.Flat.{numbered_after, IsFlatOf, AreCuts};

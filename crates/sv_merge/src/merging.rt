@@ -1,5 +1,5 @@
 // Merging tables of joined ranges into one.
-ghost use Rattle.std.specs.Prelude.{◌≡◌, ◌≤◌, ◌<◌, ◌-◌, ◌^◌, ℕ, true, false, ◌++◌, List, length, map, drop, IfOk};
+ghost use Rattle.std.specs.Prelude.{◌≡◌, ◌≤◌, ◌<◌, ◌-◌, ◌^◌, ℕ, false, ◌++◌, List, length, map, drop, IfOk};
 ghost use Rattle.std.specs.List.Sorted.{IsNonDecreasing};
 ghost use Rattle.sv_model.specs.declared.writes.Write.{Write};
 ghost use Rattle.sv_model.specs.Flat.{IsFlat};

@@ -1,5 +1,5 @@
 // Rows under the ends that they are to bear, and what of them stays.
-ghost use Rattle.std.specs.Prelude.{◌≡◌, ℕ, List, reverse, IfOk};
+ghost use Rattle.std.specs.Prelude.{◌≡◌, reverse, IfOk};
 ghost use Rattle.std.specs.List.{dedup};
 ghost use Rattle.std.specs.List.Sorted.{IsNonDecreasing};
 ghost use Rattle.sv_model.specs.Flat.{end_among};
