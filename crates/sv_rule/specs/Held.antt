@@ -39,10 +39,10 @@ Free memtables c = Occupied memtables c → ⊥
 -- not Gone; or this is new and the lane is to fill the cell; or there is none and the cell is vacant; or the cell is
 -- due, and has a memtable that is Gone.
 pub data CellSays (memtables : List Memtable) (journal : List Write) (due fill c : ℕ) (x : Option Cell) : Type 0 where
-  holds : (o : Occupied memtables c) → x ≡ Some (cell_of journal o.id) → CellSays memtables journal due fill c x
-  filling : (o : Occupied memtables c) → borne_by o.id journal ≡ [] → 1 ≤ fill → CellSays memtables journal due fill c x
-  vacant : Free memtables c → x ≡ None → CellSays memtables journal due fill c x
-  ends : Free memtables c → 1 ≤ due → (m : ℕ) (it : Memtable) → entry memtables m ≡ Some it → it.live ≡ false → x ≡ Some (cell_of journal m)
+  has_rows : (o : Occupied memtables c) → x ≡ Some (cell_of journal o.id) → CellSays memtables journal due fill c x
+  fills_up : (o : Occupied memtables c) → borne_by o.id journal ≡ [] → 1 ≤ fill → CellSays memtables journal due fill c x
+  is_vacant : Free memtables c → x ≡ None → CellSays memtables journal due fill c x
+  is_due : Free memtables c → 1 ≤ due → (m : ℕ) (it : Memtable) → entry memtables m ≡ Some it → it.live ≡ false → x ≡ Some (cell_of journal m)
       → CellSays memtables journal due fill c x
 
 abbrev pub Says : Books → List LaneView → ℕ → Option Cell → Type 0

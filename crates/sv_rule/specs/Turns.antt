@@ -1,23 +1,23 @@
 -- How the books in hand may change at one step, and what they have of the lane's own with them.
-use Rattle.std.specs.Prelude.{◌≡◌, ◌≢◌, ◌<◌, ◌≤◌, ◌+◌, ◌/◌, ◌%◌, ◌++◌, ◌∷◌, ◌⊎◌, ℕ, true, false, List, [], Some, None, length, slice_get}
-use Rattle.sv_model.specs.declared.writes.Write.{Write}
-use Rattle.sv_model.specs.declared.records.SuperVersion.{SuperVersion}
-use Rattle.sv_model.specs.declared.records.Memtable.{Memtable}
-use Rattle.sv_model.specs.declared.records.Family.{Family}
-use Rattle.sv_model.specs.declared.records.Top.{Top}
+use Rattle.std.specs.Prelude.{List, None, Some, [], false, length, slice_get, true, ℕ, ◌%◌, ◌++◌, ◌+◌, ◌/◌, ◌<◌, ◌∷◌, ◌≡◌, ◌≢◌, ◌≤◌, ◌⊎◌}
 use Rattle.sv_model.specs.After.{After, KeepsMemtable}
 use Rattle.sv_model.specs.Books.{Books}
 use Rattle.sv_model.specs.Families.{is_retired}
 use Rattle.sv_model.specs.Journal.{borne_by}
 use Rattle.sv_model.specs.Lawful.{Lawful}
-use Rattle.sv_model.specs.Lists.{In, Every, times}
-use Rattle.sv_model.specs.Numbers.{having, is_pending, is_live, is_grabbed}
-use Rattle.sv_model.specs.Registers.{entry, GoesOn}
+use Rattle.sv_model.specs.Lists.{Every, In, times}
+use Rattle.sv_model.specs.Numbers.{having, is_grabbed, is_live, is_pending}
+use Rattle.sv_model.specs.Registers.{GoesOn, entry}
 use Rattle.sv_model.specs.Summaries.{is_gone}
+use Rattle.sv_model.specs.declared.records.Family.{Family}
+use Rattle.sv_model.specs.declared.records.Memtable.{Memtable}
+use Rattle.sv_model.specs.declared.records.SuperVersion.{SuperVersion}
+use Rattle.sv_model.specs.declared.records.Top.{Top}
+use Rattle.sv_model.specs.declared.writes.Write.{Write}
 use Rattle.sv_rule.specs.Sums.{at}
-use Rattle.sv_rule.specs.Supers.{IsPackOf, current_of}
-use Rattle.sv_rule.specs.Tasks.{has_output, grabs, has_job, marks_of, handle, gone_snapshot}
-use Rattle.sv_rule.specs.Views.{Task, Output, Mark}
+use Rattle.sv_rule.specs.Supers.{IsSerialOf, current_of}
+use Rattle.sv_rule.specs.Tasks.{gone_snapshot, grabs, handle, has_job, has_output, marks_of}
+use Rattle.sv_rule.specs.Views.{Mark, Output, Task}
 
 -- ---- what the books have of the lane's own
 
@@ -45,7 +45,7 @@ taken_mark n = record { number = n; taken = true }
 
 -- Lane l, which had t of its own in the books a, has u in the books b, and its writes in between are these: what
 -- changes of outputs, jobs, snapshots, holds and handles is the lane's own.
-pub record Counts (l : ℕ) (a : Books) (t : Task) (b : Books) (u : Task) (more : List Write) : Type 0 where
+pub record OwnTurns (l : ℕ) (a : Books) (t : Task) (b : Books) (u : Task) (more : List Write) : Type 0 where
   pub lawful : Lawful b
   pub later : After a b
   pub journal : b.journal ≡ a.journal ++ more
@@ -71,7 +71,7 @@ pub record Counts (l : ℕ) (a : Books) (t : Task) (b : Books) (u : Task) (more 
 
 -- The same, with what it says of the files of the directory.
 pub record Turns (l : ℕ) (a : Books) (t : Task) (b : Books) (u : Task) (more : List Write) : Type 0 where
-  pub counts : Counts l a t b u more
+  pub counts : OwnTurns l a t b u more
   -- only the directory's lock marks an output as written
   pub written : (o : Output) → u.output ≡ Some o → o.written ≡ true → t.output ≡ Some o
   -- what becomes Live is the lane's written output, and what becomes Gone was taken away
@@ -94,7 +94,8 @@ pub record Stands (a b : Books) : Type 0 where
   pub families : NoneRetires a.families b.families
   pub long : length b.families ≡ length a.families
 
--- The pack is that of a new SuperVersion, which is family f's current. Where the family was there before, it had one.
+-- The pack is that of a new SuperVersion, which is family f's current. Where the
+-- family was there before, it had one; else it had no SuperVersion.
 pub record Opens (a b : Books) (f p : ℕ) : Type 0 where
   pub super : SuperVersion
   pub supers : b.supers ≡ a.supers ++ super ∷ []
@@ -105,6 +106,7 @@ pub record Opens (a b : Books) (f p : ℕ) : Type 0 where
   pub current : current_of b f ≡ p
   pub others : (g : ℕ) → g ≢ f → slice_get b.tops g ≡ slice_get a.tops g
   pub had : (t : Top) → slice_get a.tops f ≡ Some t → (s : ℕ) × (t.current ≡ Some s)
+  pub first : current_of a f ≡ 0 → (t : ℕ) → IsSerialOf a.supers f t → ⊥
   pub families : NoneRetires a.families b.families
   pub stands : (y : Family) → slice_get b.families f ≡ Some y → is_retired y ≡ false
   pub fresh : (g : ℕ) (y : Family) → slice_get b.families g ≡ Some y → slice_get a.families g ≡ None → g ≡ f
