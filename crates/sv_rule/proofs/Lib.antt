@@ -18,3 +18,14 @@ pub mod FileTurns
 pub mod CellLaws
 pub mod Resting
 pub mod Assembly
+pub mod DbLock
+pub mod Drops
+pub mod References
+pub mod OwnSlots
+pub mod SlotUses
+pub mod SlotPuts
+pub mod Checks
+pub mod LoadSteps
+pub mod Shows
+pub mod Loads
+pub mod Frames

@@ -25,7 +25,7 @@ use Rattle.sv_rule.specs.Rule.{Kept}
 use Rattle.sv_rule.specs.Sums.{Each, at}
 use Rattle.sv_rule.specs.Supers.{pack, writes}
 use Rattle.sv_rule.specs.Sweep.{lent}
-use Rattle.sv_rule.specs.Table.{Box, cell_word, holds, home, number, slot_home, word}
+use Rattle.sv_rule.specs.Table.{Box, cell_word, holds, home, number, number_word, slot_home, word}
 use Rattle.sv_rule.specs.Tasks.{cell_count, due_count, due_of, dues, endings, faults, fill_count, fills, grabs, handles_of, has_cell, has_db, has_dir, has_job, has_output, holds_of, lanes, marks_of, removals, some_count}
 use Rattle.sv_rule.specs.UnderWay.{excepts, fit}
 use Rattle.sv_rule.specs.Views.{Bodied, Body, CellHeld, Desk, Disk, Joined, Known, LaneView, Output, Seat, Start, Task, Work}
@@ -122,6 +122,14 @@ module _ (b : Books) (work work' : Work) (start : Start) (disk : Disk) (number n
         faults = ⊎_elim (λ h. inl (omega (arith, h, stands faults (λ z. z.2 + total (λ o. o.counts.faults) z.5) (λ x. refl)))) (λ h. inr h) held.faults;
       }
 
+  -- who may have a handle of a family whose first current is not shown yet
+  pub silent-stands : ((f : ℕ) → f < 16 → number' f ≡ number f) → ((f : ℕ) → 0 < excepts f work' → 0 < excepts f work) → WorkHeld b work start disk number vs
+      → (f : ℕ) → f < 16 → 0 < excepts f work' → number' f ≡ 0 → Each (λ j x. has_db x ≡ 0 → times f x.known.task.handles ≡ 0) (set vs id w)
+  silent-stands same_numbers less held f near excepted z =
+      let old = held.silent f near (less f excepted) (sym (same_numbers f near) ∙ z) in
+      each_set (λ j x. has_db x ≡ 0 → times f x.known.task.handles ≡ 0) vs id w
+      (λ no_lock. ap (λ (y : H). times f y.1.handles) stand ∙ old id v me (sym (due-has v w (ap (λ (y : H). y.4) stand)) ∙ no_lock)) old
+
   -- what the cells say
   pub says-stand : (k : ℕ) (x : Option Cell) → Says b vs k x → Says b (set vs id w) k x
   says-stand k x = says-step b vs id v w me k x
@@ -190,3 +198,11 @@ module _ {S D C B : Type 0} (books : S → Books) (disk : D → Disk) (cell : C 
           bodies kept.held;
       in_hand = in-hand-stays kept.b kept.work work' kept.start kept.d (number s) (number R) s.views id v w me stand mine silent kept.in_hand;
     }
+
+  -- the same where no value moves and no number word changes
+  module _ (s : State (Stored S D C B) LaneView) (kept : Kept books disk cell body s) (id : ℕ) (v w : LaneView) (me : get_elem? s.views id ≡ some v) (i x : ℕ) (stand : hand_view w ≡ hand_view v) where
+    pub rest-same : (work' : Work) → 65 < i → ((f : ℕ) → f < 16 → word (next s i x s.homes id v w me) (number_word f) ≡ number s f) → ((f : ℕ) → 0 < excepts f work' → 0 < excepts f kept.work) → (v.seat.spent ≡ false → Accounts kept.b w.known)
+        → Rest kept.b work' kept.start kept.d (next s i x s.homes id v w me)
+    rest-same work' high numbers less mine = rest-stays s kept id v w me i x s.homes stand work' high (λ k l. refl) mine
+        (silent-stands kept.b kept.work work' kept.start kept.d (number s) (number (next s i x s.homes id v w me)) s.views id v w me stand numbers less kept.in_hand)
+        kept.held.bodies

@@ -191,3 +191,7 @@ cond-is p q n e = ap (λ b. cond b n 0) (eq-eqb p q e)
 
 pub cond-else : (p q n : ℕ) → p ≢ q → cond (p == q) n 0 ≡ 0
 cond-else p q n e = ap (λ b. cond b n 0) (ne_eqb p q e)
+
+-- a word that is no pack names none
+pub marked : (q w : ℕ) → 256 ≤ q → w < 256 → same q w ≡ 0
+marked q w big small = same-else q w (λ e. omega arith)

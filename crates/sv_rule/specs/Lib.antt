@@ -17,3 +17,7 @@ pub mod Held
 pub mod InHand
 pub mod Turns
 pub mod Rule
+pub mod ReferencePlays
+pub mod SlotPlays
+pub mod RoundPlays
+pub mod SweepPlays
