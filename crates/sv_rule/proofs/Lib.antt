@@ -29,3 +29,6 @@ pub mod LoadSteps
 pub mod Shows
 pub mod Loads
 pub mod Frames
+pub mod SweepSteps
+pub mod Sweeps
+pub mod Passes

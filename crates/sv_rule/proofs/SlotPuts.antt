@@ -30,7 +30,7 @@ use Rattle.sv_rule.proofs.Sums.{at-put_else, at-put_same, marked}
 same_ref : {S D C B : Type 0} (x y : SvRef B) → ◌≡◌ {A = Box (Stored S D C B)} (some (some (is.Cached x))) (some (some (is.Cached y))) → x ≡ y
 same_ref x y e = cc
 
-no_ref : {S D C B : Type 0} (y : SvRef B) → ◌≡◌ {A = Box (Stored S D C B)} (some (some is.Nothing)) (some (some (is.Cached y))) → ⊥
+pub no_ref : {S D C B : Type 0} (y : SvRef B) → ◌≡◌ {A = Box (Stored S D C B)} (some (some is.Nothing)) (some (some (is.Cached y))) → ⊥
 no_ref y e = cc
 
 module _ {S D C B : Type 0} (books : S → Books) (disk : D → Disk) (cell : C → Option Cell) (body : B → Body) where
