@@ -32,3 +32,8 @@ pub mod Frames
 pub mod SweepSteps
 pub mod Sweeps
 pub mod Passes
+pub mod TurnRest
+pub mod Opens
+pub mod Settles
+pub mod RoundAdds
+pub mod NumberSwaps

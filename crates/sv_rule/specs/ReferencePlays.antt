@@ -1,15 +1,19 @@
 -- What the steps on reference words make of a view, and what they tell: of the seat before, the word found and the seat
 -- after.
-use Rattle.std.specs.Prelude.{◌≡◌, ◌⊎◌, ℕ, zero, suc, ◌+◌, ◌%◌, ◌<◌, ◌≤◌, ◌==◌, Bool, true, false, cond, List, [], ◌∷◌, ◌++◌, Option, Some, None}
+use Rattle.std.specs.Prelude.{Bool, List, None, Option, Some, [], cond, false, length, suc, zero, ℕ, ◌%◌, ◌++◌, ◌<◌, ◌==◌, ◌∷◌, ◌≡◌, ◌≤◌, ◌⊎◌}
 use Rattle.atomic_table.specs.Table.{Me}
 use Rattle.sv_model.specs.Books.{Books}
-use Rattle.sv_model.specs.Lists.{In, total, same}
+use Rattle.sv_model.specs.Cells.{Cell}
+use Rattle.sv_model.specs.Lists.{In, same, total}
+use Rattle.sv_model.specs.declared.records.Memtable.{Memtable}
+use Rattle.sv_rule.specs.Fits.{BodyFits}
+use Rattle.sv_rule.specs.Ledger.{most_hand}
 use Rattle.sv_rule.specs.Sums.{without}
 use Rattle.sv_rule.specs.Supers.{current_of}
-use Rattle.sv_rule.specs.Views.{LaneView, Desk, Work, Bodied, idle, opens, begun, sweeping}
-use Rattle.sv_rule.specs.Table.{holds}
-use Rattle.sv_rule.specs.Fits.{BodyFits}
-use Rattle.sv_rule.specs.Turns.{Opens, EndsSuper}
+use Rattle.sv_rule.specs.Table.{holds, number, owes}
+use Rattle.sv_rule.specs.Tasks.{lanes}
+use Rattle.sv_rule.specs.Turns.{EndsSuper, IsNewMemtable, Opens, Turns}
+use Rattle.sv_rule.specs.Views.{Bodied, Desk, LaneView, Task, Work, begun, idle, opens, sweeping}
 
 -- the lane came to know bodies
 abbrev pub learnt : List Bodied → LaneView → LaneView
@@ -70,12 +74,46 @@ has_taken_at p (Some d) = has_taken p d.work
 -- ---- kind 11, reference set
 
 -- a new SuperVersion of family f, with the lane's reference of it
-abbrev pub opened : ℕ → Bodied → Books → Desk → LaneView → LaneView
-opened f x b d v = record v { locks = record v.locks { db = Some (record { books = b; work = opens f; due = d.due }) }; hand = x.pack ∷ v.hand; known = record v.known { bodies = v.known.bodies ++ x ∷ [] } }
+abbrev pub opened : ℕ → Bodied → Books → Task → Desk → LaneView → LaneView
+opened f x b u d v = record v {
+  locks = record v.locks { db = Some (record { books = b; work = opens f; due = d.due }) };
+  hand = x.pack ∷ v.hand;
+  known = record v.known { task = u; bodies = v.known.bodies ++ x ∷ [] };
+}
+
+-- The lane has the DB lock and no work. In the books that it goes on with, the pack is new as the family's current; a
+-- memtable that is new with it is in a cell whose lock the lane has.
+pub record MayOpen (v : LaneView) (f : ℕ) (x : Bodied) (b : Books) (u : Task) : Type 0 where
+  pub alive : v.seat.spent ≡ false
+  pub desk : Desk
+  pub has : v.locks.db ≡ Some desk
+  pub resting : desk.work ≡ idle
+  pub near : f < 16
+  pub turns : Turns v.known.lane desk.books v.known.task b u []
+  pub made : Opens desk.books b f x.pack
+  pub memtable : (b.memtables ≡ desk.books.memtables)
+      ⊎ ((c : ℕ) × (m : Memtable) × (found : Option Cell) × IsNewMemtable desk.books b c m × (v.locks.cell ≡ Some (record { number = c; found = found })))
+  pub body : BodyFits b x
+  pub room : length v.hand < most_hand
 
 -- the cleanup of the SuperVersion of pack p is done, in these books, and these cells are to be made vacant
-abbrev pub settled : ℕ → Books → List ℕ → Desk → LaneView → LaneView
-settled p b cells d v = record v { locks = record v.locks { db = Some (record { books = b; work = d.work; due = d.due ++ cells }) }; owes = without p v.owes }
+abbrev pub settled : ℕ → Books → Task → List ℕ → Desk → LaneView → LaneView
+settled p b u cells d v = record v {
+  locks = record v.locks { db = Some (record { books = b; work = d.work; due = d.due ++ cells }) };
+  owes = without p v.owes;
+  known = record v.known { task = u };
+}
+
+-- The lane owes the cleanup of the pack, which is done in the books that it goes on with; it has no cell's lock.
+pub record MaySettle (v : LaneView) (p : ℕ) (b : Books) (u : Task) (cells : List ℕ) : Type 0 where
+  pub alive : v.seat.spent ≡ false
+  pub desk : Desk
+  pub has : v.locks.db ≡ Some desk
+  pub big : 256 ≤ p
+  pub owed : 0 < total (same p) v.owes
+  pub turns : Turns v.known.lane desk.books v.known.task b u []
+  pub gone : EndsSuper desk.books b p cells
+  pub cell : v.locks.cell ≡ None
 
 -- ---- what the steps tell
 
@@ -90,8 +128,8 @@ module _ {A : Type 0} where
     pub swept : 0 < has_taken_at p m.0.locks.db → was_last r ≡ false
     pub current : (d : Desk) (f : ℕ) → m.0.locks.db ≡ Some d → d.work ≡ idle → f < 16 → p ≡ current_of d.books f → was_last r ≡ false
 
-  abbrev pub Opened : ℕ → Bodied → Books → Desk → Me A LaneView → ℕ → Me A LaneView → Type 0
-  Opened f x b d m r n = n ≡ (opened f x b d m.0, m.1)
+  abbrev pub Opened : ℕ → Bodied → Books → Task → Desk → Me A LaneView → ℕ → Me A LaneView → Type 0
+  Opened f x b u d m r n = n ≡ (opened f x b u d m.0, m.1)
 
-  abbrev pub Settled : ℕ → Books → List ℕ → Desk → Me A LaneView → ℕ → Me A LaneView → Type 0
-  Settled p b cells d m r n = n ≡ (settled p b cells d m.0, m.1)
+  abbrev pub Settled : ℕ → Books → Task → List ℕ → Desk → Me A LaneView → ℕ → Me A LaneView → Type 0
+  Settled p b u cells d m r n = n ≡ (settled p b u cells d m.0, m.1)

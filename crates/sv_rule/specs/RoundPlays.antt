@@ -1,13 +1,18 @@
 -- What the steps on the round word and on number words make of a view, and what they tell.
-use Rattle.std.specs.Prelude.{◌≡◌, ◌⊎◌, ℕ, ◌+◌, ◌≤◌, ◌==◌, Bool, true, false, cond, List, [], ◌∷◌, ◌++◌, Option, Some, None, length, slice_get}
+use Rattle.std.specs.Prelude.{Bool, List, None, Option, Some, [], cond, false, length, slice_get, true, ℕ, ◌++◌, ◌+◌, ◌<◌, ◌==◌, ◌∷◌, ◌≡◌, ◌≤◌, ◌⊎◌}
 use Rattle.atomic_table.specs.Table.{Me}
-use Rattle.sv_model.specs.declared.records.Family.{Family}
-use Rattle.sv_model.specs.Families.{is_retired}
 use Rattle.sv_model.specs.Books.{Books}
-use Rattle.sv_rule.specs.Sums.{put, without}
-use Rattle.sv_rule.specs.Views.{LaneView, Desk, Task, Bodied, begun, sweeping}
+use Rattle.sv_model.specs.Families.{is_retired}
+use Rattle.sv_model.specs.Lists.{Every}
+use Rattle.sv_model.specs.declared.records.Family.{Family}
+use Rattle.sv_rule.specs.Fits.{BodyFits}
+use Rattle.sv_rule.specs.Ledger.{most_hand}
 use Rattle.sv_rule.specs.Numbers.{NumberOk}
-use Rattle.sv_rule.specs.SlotPlays.{reached}
+use Rattle.sv_rule.specs.SlotPlays.{looked, reached}
+use Rattle.sv_rule.specs.Sums.{put, without}
+use Rattle.sv_rule.specs.Supers.{current_of}
+use Rattle.sv_rule.specs.Turns.{EndsCurrent, Turns}
+use Rattle.sv_rule.specs.Views.{Bodied, Desk, LaneView, Task, begun, idle, sweeping}
 
 -- ---- kind 7, round load
 
@@ -34,6 +39,21 @@ ended_current f b u d v = record v {
   counts = record v.counts { adds = v.counts.adds + 1 };
 }
 
+-- The lane has the DB lock and no work, and goes on with these books.
+pub record MayEndCurrent (v : LaneView) (f : ℕ) (b : Books) (u : Task) : Type 0 where
+  pub alive : v.seat.spent ≡ false
+  pub desk : Desk
+  pub has : v.locks.db ≡ Some desk
+  pub resting : desk.work ≡ idle
+  pub near : f < 16
+  pub current : 256 ≤ current_of desk.books f
+  pub turns : Turns v.known.lane desk.books v.known.task b u []
+  pub ended : EndsCurrent desk.books b f
+  -- the family is retired in them, or the lane and those joined into it are all lanes
+  pub family : Family
+  pub family_at : slice_get b.families f ≡ Some family
+  pub may : (is_retired family ≡ true) ⊎ (length v.joined + 1 ≡ v.seat.lanes)
+
 -- ---- kind 6, number swap
 
 -- the number word of f was r and is p, and the sweep begins; the bodies are those of the old pack
@@ -44,6 +64,18 @@ numbered d f p olds r v = record v {
   slots = record v.slots { looked = put 0 v.slots.looked f p };
   hand = reached r (without p v.hand);
 }
+
+-- The lane began the change of family f's number word, to the pack of its current in the books in hand, or to 0; the
+-- bodies are of those books.
+pub record MaySwap (v : LaneView) (f p : ℕ) (olds : List Bodied) : Type 0 where
+  pub alive : v.seat.spent ≡ false
+  pub desk : Desk
+  pub has : v.locks.db ≡ Some desk
+  pub begun_is : desk.work ≡ begun f
+  pub near : f < 16
+  pub is : p ≡ current_of desk.books f
+  pub bodies : Every (BodyFits desk.books) olds
+  pub room : length v.hand < most_hand
 
 module _ {A : Type 0} where
   abbrev pub Framed : Me A LaneView → ℕ → Me A LaneView → Type 0
