@@ -93,3 +93,15 @@ no_db v z = by v.locks.db z
     by : (o : Option Desk) → some_count o ≡ 0 → o ≡ None
     by None z = refl
     by (Some d) z = absurd (omega arith)
+
+pub views-here : {A : Type 0} (l : List A) (i : ℕ) (p q : A) → get_elem? l i ≡ maybe.some p → get_elem? (set l i q) i ≡ maybe.some q
+views-here [] i p q e = absurd (maybe.some-ne-none p (sym e))
+views-here (z ∷ l) zero p q e = refl
+views-here (z ∷ l) (suc i) p q e = views-here l i p q e
+
+pub views-else : {A : Type 0} (l : List A) (i k : ℕ) (q : A) → k ≢ i → get_elem? (set l i q) k ≡ get_elem? l k
+views-else [] i k q n = refl
+views-else (z ∷ l) zero zero q n = absurd (n refl)
+views-else (z ∷ l) zero (suc k) q n = refl
+views-else (z ∷ l) (suc i) zero q n = refl
+views-else (z ∷ l) (suc i) (suc k) q n = views-else l i k q (λ e. n (ap suc e))

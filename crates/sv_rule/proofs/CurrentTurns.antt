@@ -1,5 +1,5 @@
 -- Who may have no current, and a handle of a family whose first current is not shown yet, as the books change.
-use Rattle.std.proofs.Common.{List, None, Option, Some, [], ap, arith, inl, inr, length, refl, set, slice_get, subst, suc, sym, zero, ℕ, ⊎_elim, ◌+◌, ◌<◌, ◌∙◌, ◌∷◌, ◌≡◌, ◌≢◌, ◌≤◌}
+use Rattle.std.proofs.Common.{List, None, Option, Some, ap, arith, inl, inr, length, refl, set, slice_get, subst, sym, ℕ, ⊎_elim, ◌+◌, ◌<◌, ◌∙◌, ◌≡◌, ◌≢◌, ◌≤◌}
 use mathlib.Core.Logic.{dite}
 use mathlib.Core.Option.{some}
 use mathlib.Core.Option as maybe
@@ -18,7 +18,7 @@ use Rattle.sv_rule.specs.Tasks.{has_db}
 use Rattle.sv_rule.specs.Turns.{NoneRetires, Opens}
 use Rattle.sv_rule.specs.UnderWay.{excepts}
 use Rattle.sv_rule.specs.Views.{Joined, LaneView, Seat, Work}
-use Rattle.sv_rule.proofs.Basics.{each_set, some_is, true_not}
+use Rattle.sv_rule.proofs.Basics.{each_set, some_is, true_not, views-else, views-here}
 use Rattle.sv_rule.proofs.CurrentLaws.{get_lt, some-at}
 
 pub retired-back : (a b : List Family) → NoneRetires a b → length b ≡ length a → (f : ℕ) (y : Family) → slice_get b f ≡ Some y → (x : Family) × (slice_get a f ≡ Some x) × (is_retired y ≡ is_retired x)
@@ -33,20 +33,8 @@ pub closing-set : (f : ℕ) (vs : List LaneView) (id : ℕ) (v w : LaneView) →
 closing-set f vs id v w me joined seat h = dite (ℕ_discrete h.0 id)
     (λ e. let is : h.1 ≡ v = maybe.some-injective h.1 v (sym h.2 ∙ (ap (get_elem? vs) e ∙ me)) in
     let k : IsClosing f v = subst (IsClosing f) is h.3 in
-    (id, w, set-here vs id v w me, record { all = ap (λ (l : List Joined). length l + 1) joined ∙ (k.all ∙ sym (ap (λ (s : Seat). s.lanes) seat)); alive = ap (λ (s : Seat). s.spent) seat ∙ k.alive; ends = subst (λ (s : Seat). In f s.ends) (sym seat) k.ends }))
-    (λ n. (h.0, h.1, set-else vs id h.0 w n ∙ h.2, h.3))
-  where
-    set-here : {A : Type 0} (l : List A) (i : ℕ) (p q : A) → get_elem? l i ≡ some p → get_elem? (set l i q) i ≡ some q
-    set-here [] i p q e = absurd (maybe.some-ne-none p (sym e))
-    set-here (z ∷ l) zero p q e = refl
-    set-here (z ∷ l) (suc i) p q e = set-here l i p q e
-
-    set-else : {A : Type 0} (l : List A) (i k : ℕ) (q : A) → k ≢ i → get_elem? (set l i q) k ≡ get_elem? l k
-    set-else [] i k q n = refl
-    set-else (z ∷ l) zero zero q n = absurd (n refl)
-    set-else (z ∷ l) zero (suc k) q n = refl
-    set-else (z ∷ l) (suc i) zero q n = refl
-    set-else (z ∷ l) (suc i) (suc k) q n = set-else l i k q (λ e. n (ap suc e))
+    (id, w, views-here vs id v w me, record { all = ap (λ (l : List Joined). length l + 1) joined ∙ (k.all ∙ sym (ap (λ (s : Seat). s.lanes) seat)); alive = ap (λ (s : Seat). s.spent) seat ∙ k.alive; ends = subst (λ (s : Seat). In f s.ends) (sym seat) k.ends }))
+    (λ n. (h.0, h.1, views-else vs id h.0 w n ∙ h.2, h.3))
 
 module _ (a b : Books) (vs : List LaneView) (id : ℕ) (v w : LaneView) (me : get_elem? vs id ≡ some v) (joined : w.joined ≡ v.joined) (seat : w.seat ≡ v.seat) where
   -- currents stand, and no family becomes retired

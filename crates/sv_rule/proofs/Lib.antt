@@ -37,3 +37,7 @@ pub mod Opens
 pub mod Settles
 pub mod RoundAdds
 pub mod NumberSwaps
+pub mod TurnsSame
+pub mod DbGoes
+pub mod Told
+pub mod DbLocks

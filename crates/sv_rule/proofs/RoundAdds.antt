@@ -1,6 +1,6 @@
 -- The kind round add keeps the rule.
 -- a family that has a current has none any more
-use Rattle.std.proofs.Common.{Bool, List, Option, Some, [], ap, arith, cond, false, inl, inr, length, option_map, refl, set, slice_get, subst, suc, sym, true, zero, ℕ, ⊎_elim, ◌%◌, ◌+◌, ◌<◌, ◌==◌, ◌^◌, ◌∙◌, ◌∷◌, ◌≡◌, ◌≢◌, ◌≤◌, ◌⊎◌}
+use Rattle.std.proofs.Common.{Bool, List, Option, Some, [], ap, arith, cond, false, inl, inr, length, option_map, refl, set, slice_get, subst, suc, sym, true, ℕ, ⊎_elim, ◌%◌, ◌+◌, ◌<◌, ◌==◌, ◌^◌, ◌∙◌, ◌∷◌, ◌≡◌, ◌≤◌, ◌⊎◌}
 use mathlib.Core.Logic.{dite}
 use mathlib.Core.Option.{some}
 use mathlib.Core.Option as maybe
@@ -33,7 +33,7 @@ use Rattle.sv_rule.specs.UnderWay.{Stock, excepts, fit, middle}
 use Rattle.sv_rule.specs.Views.{Body, Desk, Disk, Joined, LaneView, Seat, Task, Work, begun, idle, opens}
 use Rattle.sv_rule.specs.declared.parts.Stored.{Stored}
 use Rattle.sv_rule.proofs.Assembly.{N, kept-by-word, low_id, stays}
-use Rattle.sv_rule.proofs.Basics.{at_desk, every_map, no_desk_in, some_is, true_not}
+use Rattle.sv_rule.proofs.Basics.{at_desk, every_map, no_desk_in, some_is, true_not, views-else, views-here}
 use Rattle.sv_rule.proofs.CurrentLaws.{get_lt, has_current_none, has_current_one, some-at}
 use Rattle.sv_rule.proofs.DbLock.{db-desk, owners-desk}
 use Rattle.sv_rule.proofs.FitLaws.{body-after}
@@ -76,18 +76,6 @@ currents-end a b vs id v w me alive f h x x_at may joined seat c = record {
     back : (g : ℕ) (y : Family) → slice_get b.families g ≡ Some y → (z : Family) × (slice_get a.families g ≡ Some z)
     back g y at = some-at a.families g (omega (arith, get_lt b.families g y at, h.long))
 
-    set-here : {A : Type 0} (l : List A) (i : ℕ) (p q : A) → get_elem? l i ≡ some p → get_elem? (set l i q) i ≡ some q
-    set-here [] i p q e = absurd (maybe.some-ne-none p (sym e))
-    set-here (z ∷ l) zero p q e = refl
-    set-here (z ∷ l) (suc i) p q e = set-here l i p q e
-
-    set-else : {A : Type 0} (l : List A) (i k : ℕ) (q : A) → k ≢ i → get_elem? (set l i q) k ≡ get_elem? l k
-    set-else [] i k q n = refl
-    set-else (z ∷ l) zero zero q n = absurd (n refl)
-    set-else (z ∷ l) zero (suc k) q n = refl
-    set-else (z ∷ l) (suc i) zero q n = refl
-    set-else (z ∷ l) (suc i) (suc k) q n = set-else l i k q (λ e. n (ap suc e))
-
     more_in : (q : Bool) (g : ℕ) → In g v.seat.ends → In g (cond q v.seat.ends (f ∷ v.seat.ends))
     more_in true g k = k
     more_in false g k = record { at = suc k.at; is = k.is }
@@ -102,8 +90,8 @@ currents-end a b vs id v w me alive f h x x_at may joined seat c = record {
     still : (g : ℕ) → ((j : ℕ) × (u : LaneView) × (get_elem? vs j ≡ some u) × IsClosing g u) → (j : ℕ) × (u : LaneView) × (get_elem? (set vs id w) j ≡ some u) × IsClosing g u
     still g q = dite (ℕ_discrete q.0 id)
         (λ e. let k : IsClosing g v = subst (IsClosing g) (maybe.some-injective q.1 v (sym q.2 ∙ (ap (get_elem? vs) e ∙ me))) q.3 in
-        (id, w, set-here vs id v w me, record { all = all_now k.all; alive = alive_now; ends = subst (λ (z : Seat). In g z.ends) (sym seat) (more_in (is_retired_in (slice_get b.families f)) g k.ends) }))
-        (λ n. (q.0, q.1, set-else vs id q.0 w n ∙ q.2, q.3))
+        (id, w, views-here vs id v w me, record { all = all_now k.all; alive = alive_now; ends = subst (λ (z : Seat). In g z.ends) (sym seat) (more_in (is_retired_in (slice_get b.families f)) g k.ends) }))
+        (λ n. (q.0, q.1, views-else vs id q.0 w n ∙ q.2, q.3))
 
     -- the lane ends it, where the family is not retired
     closing : is_retired x ≡ false → (g : ℕ) → g ≡ f → IsClosing g w
@@ -115,7 +103,7 @@ currents-end a b vs id v w me alive f h x x_at may joined seat c = record {
 
     by_retired : (q : Bool) → is_retired x ≡ q → (g : ℕ) → g ≡ f → (y : Family) → x ≡ y → (is_retired y ≡ true) ⊎ ((j : ℕ) × (u : LaneView) × (get_elem? (set vs id w) j ≡ some u) × IsClosing g u)
     by_retired true is g e y same_family = inl (ap is_retired (sym same_family) ∙ is)
-    by_retired false is g e y same_family = inr (id, w, set-here vs id v w me, closing is g e)
+    by_retired false is g e y same_family = inr (id, w, views-here vs id v w me, closing is g e)
 
 module _ {S D C B : Type 0} (books : S → Books) (disk : D → Disk) (cell : C → Option Cell) (body : B → Body) where
   -- the work is set, and begins

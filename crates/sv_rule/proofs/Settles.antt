@@ -42,14 +42,14 @@ live_there : {supers : List SuperVersion} {h o : ℕ → ℕ} {w : ℕ} (t k : �
 live_there {supers} {h} {o} {w} t k pos near place owed = ⊎_elim (λ (v : Vacant supers h o k w). absurd (omega (arith, v.unowed t pos)))
     (λ (c : Counted supers h o k w). dite (ℕ_discrete t c.serial) (λ e. subst (λ (z : ℕ). LiveAt supers z k) (sym e) c.live) (λ n. absurd (omega (arith, c.others_unowed t pos n)))) place
 
-fills_none : (v : LaneView) → v.locks.cell ≡ None → (k : ℕ) → fills k v ≡ 0
+pub fills_none : (v : LaneView) → v.locks.cell ≡ None → (k : ℕ) → fills k v ≡ 0
 fills_none v e k = ap (λ h. fill_count k (due_of v) h) e ∙ by (due_of v)
   where
     by : (o : Option (List ℕ)) → fill_count k o None ≡ 0
     by None = refl
     by (Some d) = refl
 
-fills_no_db : (v : LaneView) → has_db v ≡ 0 → (k : ℕ) → fills k v ≡ 0
+pub fills_no_db : (v : LaneView) → has_db v ≡ 0 → (k : ℕ) → fills k v ≡ 0
 fills_no_db v e k = by v.locks.db v.locks.cell e
   where
     by : (o : Option Desk) (h : Option CellHeld) → some_count o ≡ 0 → fill_count k (option_map (λ (d : Desk). d.due) o) h ≡ 0

@@ -21,3 +21,4 @@ pub mod ReferencePlays
 pub mod SlotPlays
 pub mod RoundPlays
 pub mod SweepPlays
+pub mod LockPlays
