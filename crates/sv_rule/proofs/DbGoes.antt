@@ -65,7 +65,7 @@ module _ {S D C B : Type 0} (books : S → Books) (disk : D → Disk) (cell : C 
         dir = subst (λ (z : ℕ × Box (Stored S D C B)). Lock (IsDir {S = S} {D = D} {C = C} {B = B} disk kept.d) has_dir z.0 z.1 W.views) (λ k. (sym (else 1 (λ z. omega arith)) k, sym (others 1 (λ z. omega arith)) k))
             (lock-else (IsDir {S = S} {D = D} {C = C} {B = B} disk kept.d) (IsDir {S = S} {D = D} {C = C} {B = B} disk kept.d) has_dir (word s 1) (home s 1) s.views id v w me (ap (λ (o : Option Disk). some_count o) same_dir) (λ y h. h) kept.home.dir);
         disks = each_set (λ j u. (k : Disk) → u.locks.dir ≡ Some k → k ≡ kept.d) s.views id w (λ k e. kept.home.disks id v me k (sym same_dir ∙ e)) kept.home.disks;
-        held = held-by cell body s 0 x homes id v w me a b kept.start.disk kept.d (λ c l e. omega arith) (λ c l. others (cell_word c) (λ z. omega arith)) same_cell says
+        held = held-by cell body s 0 x homes id v w me a b kept.start.disk kept.d kept.d (λ c l e. omega arith) (λ c l. others (cell_word c) (λ z. omega arith)) same_cell says
             (told-map (λ p q. FilesHeld a p q s.views) (λ p q. FilesHeld b p q W.views) (λ p q h. files-turn a b kept.work kept.start kept.d (number s) s.views id v w v.known.lane [] me before alive turns kept.in_hand p q h) kept.start.disk.files kept.d.files kept.held.files)
             (λ k r l e. body-after a b later (record { pack = r.pack; body = body r.body.value }) (kept.held.bodies k r l (sym (others (slot_home k) (λ z. omega arith)) ∙ e)))
             kept.held;

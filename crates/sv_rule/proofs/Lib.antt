@@ -41,3 +41,8 @@ pub mod TurnsSame
 pub mod DbGoes
 pub mod Told
 pub mod DbLocks
+pub mod LockGoes
+pub mod FileNames
+pub mod RefLaws
+pub mod DirFiles
+pub mod DirLocks

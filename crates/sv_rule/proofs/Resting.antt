@@ -151,11 +151,11 @@ module _ {S D C B : Type 0} (cell : C → Option Cell) (body : B → Body) (s : 
   abbrev N : State (Stored S D C B) LaneView
   N = next s i x homes id v w me
 
-  pub held-by : (a b : Books) (first disk : Disk) → ((c : ℕ) → c < 64 → cell_word c ≢ i) → ((c : ℕ) → c < 64 → get_elem? homes (cell_word c) ≡ get_elem? s.homes (cell_word c)) → w.locks.cell ≡ v.locks.cell
+  pub held-by : (a b : Books) (first old disk : Disk) → ((c : ℕ) → c < 64 → cell_word c ≢ i) → ((c : ℕ) → c < 64 → get_elem? homes (cell_word c) ≡ get_elem? s.homes (cell_word c)) → w.locks.cell ≡ v.locks.cell
       → ((k : ℕ) (y : Option Cell) → Says a s.views k y → Says b N.views k y) → Told (λ p q. FilesHeld b p q N.views) first.files disk.files
       → ((k : ℕ) (r : SvRef B) → k < 512 → get_elem? homes (slot_home k) ≡ some (some (is.Cached r)) → BodyFits b (record { pack = r.pack; body = body r.body.value }))
-      → Held cell body a first disk s → Held cell body b first disk N
-  held-by a b first disk else same_homes same_cell says files bodies h = record {
+      → Held cell body a first old s → Held cell body b first disk N
+  held-by a b first old disk else same_homes same_cell says files bodies h = record {
     cells = λ c l. subst (λ (z : ℕ × Box (Stored S D C B)). Lock (IsCell {S = S} {D = D} {C = C} {B = B} cell body (Says b N.views c)) (has_cell c) z.0 z.1 N.views)
         (λ k. (sym (word_else s i x homes id v w me (cell_word c) (else c l)) k, sym (same_homes c l) k))
         (lock-else (IsCell {S = S} {D = D} {C = C} {B = B} cell body (Says a s.views c)) (IsCell {S = S} {D = D} {C = C} {B = B} cell body (Says b N.views c)) (has_cell c) (word s (cell_word c)) (home s (cell_word c)) s.views id v w me
@@ -192,7 +192,7 @@ module _ {S D C B : Type 0} (books : S → Books) (disk : D → Disk) (cell : C 
           (λ k. (sym (word_else s i x homes id v w me 1 (λ e. omega arith)) k, sym (same_homes 1 (omega arith)) k))
           (lock-else (IsDir {S = S} {D = D} {C = C} {B = B} disk kept.d) (IsDir {S = S} {D = D} {C = C} {B = B} disk kept.d) has_dir (word s 1) (home s 1) s.views id v w me (ap (λ (z : X). some_count z.6) stand) (λ y h. h) kept.home.dir);
       disks = each_set (λ j u. (k : Disk) → u.locks.dir ≡ Some k → k ≡ kept.d) s.views id w (λ k e. kept.home.disks id v me k (ap (λ (z : X). z.6) (sym stand) ∙ e)) kept.home.disks;
-      held = held-by cell body s i x homes id v w me kept.b kept.b kept.start.disk kept.d (λ c l e. omega arith) (λ c l. same_homes (cell_word c) (omega arith)) (ap (λ (z : X). z.3) stand)
+      held = held-by cell body s i x homes id v w me kept.b kept.b kept.start.disk kept.d kept.d (λ c l e. omega arith) (λ c l. same_homes (cell_word c) (omega arith)) (ap (λ (z : X). z.3) stand)
           (says-stand kept.b kept.work work' kept.start kept.d (number s) (number R) s.views id v w me stand)
           (told-map (λ p q. FilesHeld kept.b p q s.views) (λ p q. FilesHeld kept.b p q R.views) (files-stand kept.b kept.work work' kept.start kept.d (number s) (number R) s.views id v w me stand) kept.start.disk.files kept.d.files kept.held.files)
           bodies kept.held;

@@ -82,7 +82,7 @@ module _ {S D C B : Type 0} (books : S → Books) (disk : D → Disk) (cell : C 
         dir = subst (λ (z : ℕ). Lock (IsDir {S = S} {D = D} {C = C} {B = B} disk kept.d) has_dir z (home s 1) T.views) (sym (word_else s i x s.homes id v w me 1 (λ e. omega arith)))
             (lock-else (IsDir {S = S} {D = D} {C = C} {B = B} disk kept.d) (IsDir {S = S} {D = D} {C = C} {B = B} disk kept.d) has_dir (word s 1) (home s 1) s.views id v w me (ap (λ (o : Option Disk). some_count o) same_dir) (λ y h. h) kept.home.dir);
         disks = each_set (λ j u. (k : Disk) → u.locks.dir ≡ Some k → k ≡ kept.d) s.views id w (λ k e. kept.home.disks id v me k (sym same_dir ∙ e)) kept.home.disks;
-        held = held-by cell body s i x s.homes id v w me kept.b b kept.start.disk kept.d (λ c l e. omega arith) (λ c l. refl) same_cell says
+        held = held-by cell body s i x s.homes id v w me kept.b b kept.start.disk kept.d kept.d (λ c l e. omega arith) (λ c l. refl) same_cell says
             (told-map (λ p q. FilesHeld kept.b p q s.views) (λ p q. FilesHeld b p q T.views) (λ p q h. files-turn kept.b b kept.work kept.start kept.d (number s) s.views id v w v.known.lane [] me before alive turns kept.in_hand p q h) kept.start.disk.files kept.d.files kept.held.files)
             (λ k r l e. body-after kept.b b turns.counts.later (record { pack = r.pack; body = body r.body.value }) (kept.held.bodies k r l e))
             kept.held;
