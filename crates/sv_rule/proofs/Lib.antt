@@ -46,3 +46,8 @@ pub mod FileNames
 pub mod RefLaws
 pub mod DirFiles
 pub mod DirLocks
+pub mod CellReads
+pub mod CellFinds
+pub mod CellGoes
+pub mod Cells
+pub mod CellWrites
