@@ -1,5 +1,5 @@
 -- Small laws on options, lists and views.
-use Rattle.std.proofs.Common.{List, None, Option, Some, [], ap, arith, false, inl, inr, refl, set, slice_get, subst, suc, sym, true, zero, ℕ, ⊎_elim, ◌++◌, ◌∙◌, ◌∷◌, ◌≡◌, ◌≢◌, ◌⊎◌}
+use Rattle.std.proofs.Common.{List, None, Option, Some, [], ap, arith, false, inl, inr, length, refl, set, slice_get, subst, suc, sym, true, zero, ℕ, ⊎_elim, ◌++◌, ◌+◌, ◌∙◌, ◌∷◌, ◌≡◌, ◌≢◌, ◌≤◌, ◌⊎◌}
 use mathlib.Core.Option as maybe
 use lib.ListN.{get_elem?}
 use Rattle.atomic_table.proofs.Lists.{at_set}
@@ -17,6 +17,11 @@ true_not e = cc
 
 pub get_none : {A : Type 0} (n : ℕ) (y : A) → slice_get [] n ≡ Some y → ⊥
 get_none n y e = absurd (cc)
+
+pub get-past : {A : Type 0} (l : List A) (n : ℕ) → slice_get l n ≡ None → length l ≤ n
+get-past [] n e = omega arith
+get-past (x ∷ l) zero e = absurd (cc)
+get-past (x ∷ l) (suc n) e = let r = get-past l n e in omega arith
 
 pub get_one : {A : Type 0} (x : A) (n : ℕ) (y : A) → slice_get (x ∷ []) n ≡ Some y → (n ≡ 0) × (y ≡ x)
 get_one x zero y e = (refl, sym (some_is e))

@@ -38,7 +38,7 @@ fills_le c v = by (due_of v) v.locks.cell
     by (Some d) None = omega arith
     by (Some d) (Some h) = omega arith
 
-dues_none : (c : ℕ) (v : LaneView) → has_db v ≡ 0 → dues c v ≡ 0
+pub dues_none : (c : ℕ) (v : LaneView) → has_db v ≡ 0 → dues c v ≡ 0
 dues_none c v z = ap (λ (o : Option Desk). due_count c (option_map (λ (d : Desk). d.due) o)) (no_db v z)
 
 pub dues_is : (c : ℕ) (v : LaneView) (d : Desk) → v.locks.db ≡ Some d → dues c v ≡ times c d.due

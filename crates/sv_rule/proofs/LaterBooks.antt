@@ -29,13 +29,17 @@ continues-map f a b h = (map f h.0, ap (map f) h.1 ∙ map-append f a h.0)
 pub continues-length : {A : Type 0} (a b : List A) → Continues a b → length a ≤ length b
 continues-length a b h = omega (arith, ap length h.1, length-append a h.0)
 
+-- what stood in front stands there still
+get-old : {A : Type 0} (l m : List A) (n : ℕ) (x : A) → slice_get l n ≡ Some x → slice_get (l ++ m) n ≡ Some x
+get-old [] m n x is = absurd (cc)
+get-old (y ∷ l) m zero x is = is
+get-old (y ∷ l) m (suc n) x is = get-old l m n x is
+
+pub continues-at : {A : Type 0} (a b : List A) → Continues a b → (n : ℕ) (x : A) → slice_get a n ≡ Some x → slice_get b n ≡ Some x
+continues-at a b h n x is = ap (λ l. slice_get l n) h.1 ∙ get-old a h.0 n x is
+
 pub in-more : {A : Type 0} (a b : List A) → Continues a b → (x : A) → In x a → In x b
-in-more a b h x has = record { at = has.at; is = ap (λ l. slice_get l has.at) h.1 ∙ old a h.0 has.at x has.is }
-  where
-    old : {A : Type 0} (l m : List A) (n : ℕ) (x : A) → slice_get l n ≡ Some x → slice_get (l ++ m) n ≡ Some x
-    old [] m n x is = absurd (cc)
-    old (y ∷ l) m zero x is = is
-    old (y ∷ l) m (suc n) x is = old l m n x is
+in-more a b h x has = record { at = has.at; is = continues-at a b h has.at x has.is }
 
 -- ---- SuperVersions
 

@@ -51,3 +51,7 @@ pub mod CellFinds
 pub mod CellGoes
 pub mod Cells
 pub mod CellWrites
+pub mod SeatWork
+pub mod SeatRest
+pub mod SeatSplits
+pub mod SeatJoins

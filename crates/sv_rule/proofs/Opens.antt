@@ -35,7 +35,7 @@ use Rattle.sv_rule.specs.UnderWay.{Stock, fit, middle}
 use Rattle.sv_rule.specs.Views.{Bodied, Body, Desk, Disk, LaneView, Start, Task, Work, idle, opens}
 use Rattle.sv_rule.specs.declared.parts.Stored.{Stored}
 use Rattle.sv_rule.proofs.Assembly.{N, kept-by-word, low_id, stays}
-use Rattle.sv_rule.proofs.Basics.{at_desk, each_other, every_append, every_cons, every_map, every_none, has_one, no_desk_in}
+use Rattle.sv_rule.proofs.Basics.{at_desk, each_other, every_append, every_cons, every_map, every_none, get-past, has_one, no_desk_in}
 use Rattle.sv_rule.proofs.CurrentLaws.{current_big, get_lt, some-at}
 use Rattle.sv_rule.proofs.CurrentTurns.{currents-open}
 use Rattle.sv_rule.proofs.DbLock.{db-desk, owners-desk}
@@ -53,11 +53,6 @@ others_no_handle : (a : Books) (work : Work) (start : Start) (disk : Disk) (numb
     → ((t : Top) → slice_get a.tops f ≡ Some t → (s : ℕ) × (t.current ≡ Some s)) → (j : ℕ) (u : LaneView) → get_elem? vs j ≡ some u → times f u.known.task.handles ≡ 0
 others_no_handle a work start disk number vs f before held no_current had j u at_u = by_top (slice_get a.tops f) refl
   where
-    past : {A : Type 0} (l : List A) (n : ℕ) → slice_get l n ≡ None → length l ≤ n
-    past [] n e = omega arith
-    past (x ∷ l) zero e = absurd (none_some x (sym e))
-    past (x ∷ l) (suc n) e = let r = past l n e in omega arith
-
     beyond-none : {A : Type 0} (l : List A) (n : ℕ) → length l ≤ n → slice_get l n ≡ None
     beyond-none [] n h = refl
     beyond-none (x ∷ l) zero h = absurd (omega arith)
@@ -65,7 +60,7 @@ others_no_handle a work start disk number vs f before held no_current had j u at
 
     by_top : (o : Option Top) → slice_get a.tops f ≡ o → times f u.known.task.handles ≡ 0
     by_top None e =
-        let gone : slice_get a.families f ≡ None = beyond-none a.families f (omega (arith, past a.tops f e, before.paired)) in
+        let gone : slice_get a.families f ≡ None = beyond-none a.families f (omega (arith, get-past a.tops f e, before.paired)) in
         let pos : 0 < f = dite (ℕ_discrete f 0) (λ z. absurd (none_some before.default.it (sym gone ∙ ap (slice_get a.families) z ∙ before.default.at))) (λ z. omega arith) in
         omega (
           arith,

@@ -22,7 +22,7 @@ use Rattle.sv_rule.specs.Tasks.{all_adds}
 use Rattle.sv_rule.specs.Turns.{Opens}
 use Rattle.sv_rule.specs.UnderWay.{begins, excepts, sets, sets_on}
 use Rattle.sv_rule.specs.Views.{Joined, LaneView, Load, Work, begun, idle, opens, sweeping}
-use Rattle.sv_rule.proofs.Basics.{each_set}
+use Rattle.sv_rule.proofs.Basics.{each_set, get-past}
 use Rattle.sv_rule.proofs.CurrentLaws.{HasTop, current_big, current_marks, get_lt, has-top, has_current_le, has_current_one, one_family, pack_le, pack_serial, serial_le, some-at}
 use Rattle.sv_rule.proofs.LaterBooks.{pack-after}
 use Rattle.sv_rule.proofs.NumberTurns.{new-is-last, opens-back, opens-long, opens-others}
@@ -164,13 +164,8 @@ bound-opens a b later before lawful f p round h near big old =
     t : HasTop b f
     t = has-top b lawful f (omega (arith, h.current))
 
-    past : {A : Type 0} (l : List A) (n : ℕ) → slice_get l n ≡ None → length l ≤ n
-    past [] n e = omega arith
-    past (x ∷ l) zero e = absurd (none_some x (sym e))
-    past (x ∷ l) (suc n) e = let r = past l n e in omega arith
-
     by_top : (o : Option Top) → slice_get a.tops f ≡ o → (has_current a f ≡ 1) ⊎ (length a.families + 1 ≤ length b.families)
-    by_top None e = inr (omega (arith, past a.tops f e, get_lt b.families f t.family t.family_at, before.paired))
+    by_top None e = inr (omega (arith, get-past a.tops f e, get_lt b.families f t.family t.family_at, before.paired))
     by_top (Some x) e =
         let s = h.had x e in
         let y = some-at a.families f (omega (arith, get_lt a.tops f x e, before.paired)) in

@@ -22,3 +22,4 @@ pub mod SlotPlays
 pub mod RoundPlays
 pub mod SweepPlays
 pub mod LockPlays
+pub mod SeatPlays
