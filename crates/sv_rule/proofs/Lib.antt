@@ -55,3 +55,6 @@ pub mod SeatWork
 pub mod SeatRest
 pub mod SeatSplits
 pub mod SeatJoins
+pub mod FirstBooks
+pub mod FirstWork
+pub mod Starts

@@ -23,3 +23,4 @@ pub mod RoundPlays
 pub mod SweepPlays
 pub mod LockPlays
 pub mod SeatPlays
+pub mod Begins
