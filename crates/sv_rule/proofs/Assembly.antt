@@ -10,6 +10,7 @@ use Rattle.sv_model.specs.Books.{Books}
 use Rattle.sv_model.specs.Cells.{Cell}
 use Rattle.sv_model.specs.Lists.{same, total}
 use Rattle.sv_model.specs.TableTextFields.{start}
+use Rattle.sv_rule.specs.Blanks.{no_locks}
 use Rattle.sv_rule.specs.Fresh.{Fresh, FreshOf}
 use Rattle.sv_rule.specs.Home.{IsState, Lock, SlotOk}
 use Rattle.sv_rule.specs.Ledger.{Places, most_hand}
@@ -45,7 +46,7 @@ module _ {S D C B : Type 0} (books : S → Books) (disk : D → Disk) (cell : C 
     pub stays : (j : ℕ) → j ≢ i → word N j ≡ word s j
     stays = word_else s i x s.homes id v w me
 
-    pub kept-by-word : (b : Books) (work : Work) → Lock (IsState {S = S} {D = D} {C = C} {B = B} books b work) has_db (word s 0) (home s 0) N.views → Desks b work N.views → Rest books disk cell body b work kept.start kept.d N → Places b.supers (reference N) (holders N) (owers N) → length w.hand ≤ most_hand → length w.slots.slot ≤ 16 → seat_view w ≡ seat_view v → (w.seat.spent ≡ true → w.locks.db ≡ None)
+    pub kept-by-word : (b : Books) (work : Work) → Lock (IsState {S = S} {D = D} {C = C} {B = B} books b work) has_db (word s 0) (home s 0) N.views → Desks b work N.views → Rest books disk cell body b work kept.start kept.d N → Places b.supers (reference N) (holders N) (owers N) → length w.hand ≤ most_hand → length w.slots.slot ≤ 16 → seat_view w ≡ seat_view v → (w.seat.spent ≡ true → w.locks ≡ no_locks)
         → Numbers b work (number N) → Rights work (number N) (slot N) N.views → Apart (number N) work → ((d : Desk) → w.locks.db ≡ Some d → Stock d.books d.work w.hand) → Fresh b (number N) N.views → Rounds b work (word N 82) (number N) N.views → Kept books disk cell body N
     kept-by-word b work lock desks rest places few slots shaped dead numbers rights apart stock fresh rounds = record {
       b = b;
@@ -78,7 +79,7 @@ module _ {S D C B : Type 0} (books : S → Books) (disk : D → Disk) (cell : C 
     z_stays = word_else s 0 x homes id v w me
 
     pub kept-by-lock : (b : Books) (work : Work) → length homes ≡ length s.homes → ((k : ℕ) → k ≢ 0 → get_elem? homes k ≡ get_elem? s.homes k) → Lock (IsState {S = S} {D = D} {C = C} {B = B} books b work) has_db x (get_elem? homes 0) Z.views → Desks b work Z.views → Rest books disk cell body b work kept.start kept.d Z → Places b.supers (reference Z) (holders Z) (owers Z) → length w.hand ≤ most_hand → length w.slots.slot ≤ 16 → seat_view w ≡ seat_view v
-        → (w.seat.spent ≡ true → w.locks.db ≡ None) → Numbers b work (number Z) → Rights work (number Z) (slot Z) Z.views → Apart (number Z) work → ((d : Desk) → w.locks.db ≡ Some d → Stock d.books d.work w.hand) → Fresh b (number Z) Z.views → Rounds b work (word Z 82) (number Z) Z.views → Kept books disk cell body Z
+        → (w.seat.spent ≡ true → w.locks ≡ no_locks) → Numbers b work (number Z) → Rights work (number Z) (slot Z) Z.views → Apart (number Z) work → ((d : Desk) → w.locks.db ≡ Some d → Stock d.books d.work w.hand) → Fresh b (number Z) Z.views → Rounds b work (word Z 82) (number Z) Z.views → Kept books disk cell body Z
     kept-by-lock b work long others lock desks rest places few slots shaped dead numbers rights apart stock fresh rounds = record {
       b = b;
       work = work;
@@ -119,7 +120,7 @@ module _ {S D C B : Type 0} (books : S → Books) (disk : D → Disk) (cell : C 
     m_numbers f l = m_stays (number_word f) (λ z. omega arith)
 
     pub kept-by-slot : (work : Work) → length homes ≡ length s.homes → ((k : ℕ) → k ≢ slot_home i → get_elem? homes k ≡ get_elem? s.homes k) → SlotOk x (get_elem? homes (slot_home i)) → Lock (IsState {S = S} {D = D} {C = C} {B = B} books kept.b work) has_db (word s 0) (home s 0) M.views → Desks kept.b work M.views → Rest books disk cell body kept.b work kept.start kept.d M
-        → ((q : ℕ) → 256 ≤ q → same q (slot s i) + holds q v ≡ same q x + holds q w) → w.owes ≡ v.owes → length w.hand ≤ most_hand → length w.slots.slot ≤ 16 → seat_view w ≡ seat_view v → (w.seat.spent ≡ true → w.locks.db ≡ None)
+        → ((q : ℕ) → 256 ≤ q → same q (slot s i) + holds q v ≡ same q x + holds q w) → w.owes ≡ v.owes → length w.hand ≤ most_hand → length w.slots.slot ≤ 16 → seat_view w ≡ seat_view v → (w.seat.spent ≡ true → w.locks ≡ no_locks)
         → Numbers kept.b work (number s) → Rights work (number s) (slot M) M.views → Apart (number s) work → ((d : Desk) → w.locks.db ≡ Some d → Stock d.books d.work w.hand) → Fresh kept.b (number s) M.views → rounds_of work ≡ rounds_of kept.work → rounds_view w ≡ rounds_view v → Kept books disk cell body M
     kept-by-slot work long others ok lock desks rest moves owed few slots shaped dead numbers rights apart stock fresh e stand = record {
       b = kept.b;

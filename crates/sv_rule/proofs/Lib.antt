@@ -58,3 +58,4 @@ pub mod SeatJoins
 pub mod FirstBooks
 pub mod FirstWork
 pub mod Starts
+pub mod Closes

@@ -18,7 +18,7 @@ use Rattle.sv_rule.specs.Sums.{at}
 use Rattle.sv_rule.specs.Sweep.{Right}
 use Rattle.sv_rule.specs.Table.{holders, holds, number, number_word, owers, owes, reference, reference_word, slot, slot_of, slot_word, spot, word}
 use Rattle.sv_rule.specs.UnderWay.{Stock, fit, middle}
-use Rattle.sv_rule.specs.Views.{Body, Desk, Disk, Joined, LaneView}
+use Rattle.sv_rule.specs.Views.{Body, Desk, Disk, Joined, LaneView, Locks}
 use Rattle.sv_rule.specs.declared.parts.Stored.{Stored}
 use Rattle.sv_rule.proofs.Assembly.{kept-by-word, low_id}
 use Rattle.sv_rule.proofs.Basics.{each_set}
@@ -41,7 +41,7 @@ module _ {S D C B : Type 0} (books : S → Books) (disk : D → Disk) (cell : C 
       → ((d : Desk) → v.locks.db ≡ Some d → Stock d.books d.work w.hand)
       → ((f : ℕ) → f < 16 → FreshOf kept.b (number s f) f (slot_of w f) (at 0 w.slots.cached f) (at 0 w.slots.looked f) (at 0 w.known.seen f))
       → ((round : ℕ) (number' : ℕ → ℕ) → round ≡ word s 82 → ((f : ℕ) → f < 16 → number' f ≡ number s f) → Rounds kept.b kept.work round number' (set s.views id w)) → Kept books disk cell body L
-  kept-by-load hands mine same_holds few hand owed shaped e₃ rights stock fresh circles = let numbers : (f : ℕ) → f < 16 → number L f ≡ number s f = λ f l. stays (number_word f) in
+  kept-by-load hands mine same_holds few hand owed shaped e₃ rights stock fresh circles = let same_locks : w.locks ≡ v.locks = λ k. record { db = e₃ k; cell = (hands k).3; dir = (hands k).6 } in let numbers : (f : ℕ) → f < 16 → number L f ≡ number s f = λ f l. stays (number_word f) in
       let rights_at : (f : ℕ) → f < 16 → Right (fit kept.work f id (number s f)) (middle (spot id f) kept.work) (slot s (spot id f)) (number s f) (at 0 v.slots.cached f) (slot_of v f) = λ f l.
       right_same refl refl refl refl (ap (λ (z : LaneView). at 0 z.slots.cached f) (sym (at-is nobody s.views id v me))) (ap (λ (z : LaneView). slot_of z f) (sym (at-is nobody s.views id v me))) (kept.sweep.right id f (low_id books disk cell body s kept id v w me) l) in
       kept-by-word books disk cell body s kept id v w me i (word s i) (omega arith) near kept.b kept.work
@@ -56,7 +56,7 @@ module _ {S D C B : Type 0} (books : S → Books) (disk : D → Disk) (cell : C 
         below-same (λ f. same q (slot s f)) (λ f. same q (slot L f)) 512 (λ f y. ap (same q) (stays (slot_word f))),
       ))
       (λ q l. omega (arith, views_move s i (word s i) s.homes id v w me (owes q), ap (total (same q)) owed)) kept.ledger.places)
-      hand few shaped (λ z. e₃ ∙ kept.home.seats.spent id v me (ap (λ (y : Bool × ℕ × ℕ × ℕ × List Joined). y.0) (sym shaped) ∙ z))
+      hand few shaped (λ z. same_locks ∙ kept.home.seats.spent id v me (ap (λ (y : Bool × ℕ × ℕ × ℕ × List Joined). y.0) (sym shaped) ∙ z))
       (numbers_same kept.b kept.work (number s) (number L) numbers kept.numbers)
       (spots_set (λ l f c x. Right (fit kept.work f l (number L f)) (middle (spot l f) kept.work) (slot L (spot l f)) (number L f) c x) s.views id v w me
       (λ f l. right_same (ap (fit kept.work f id) (numbers f l)) refl (stays (slot_word (spot id f))) (numbers f l) refl refl (rights f l (rights_at f l)))

@@ -32,7 +32,7 @@ use Rattle.sv_rule.specs.Table.{holders, number, number_word, owers, owes, refer
 use Rattle.sv_rule.specs.Tasks.{handle_in, handles_of, has_db}
 use Rattle.sv_rule.specs.Turns.{IsNewMemtable, Opens, Turns}
 use Rattle.sv_rule.specs.UnderWay.{Stock, fit, middle}
-use Rattle.sv_rule.specs.Views.{Bodied, Body, Desk, Disk, LaneView, Start, Task, Work, idle, opens}
+use Rattle.sv_rule.specs.Views.{Bodied, Body, Desk, Disk, LaneView, Locks, Start, Task, Work, idle, opens}
 use Rattle.sv_rule.specs.declared.parts.Stored.{Stored}
 use Rattle.sv_rule.proofs.Assembly.{N, kept-by-word, low_id, stays}
 use Rattle.sv_rule.proofs.Basics.{at_desk, each_other, every_append, every_cons, every_map, every_none, get-past, has_one, no_desk_in}
@@ -123,7 +123,7 @@ module _ {S D C B : Type 0} (books : S → Books) (disk : D → Disk) (cell : C 
             (λ q. omega (arith, views_move s i x s.homes id v w me (owes q)))
             (moved (pack (p / 256) k) ∙ ap (λ (z : ℕ). holders s (pack (p / 256) k) + z) (ap (λ (z : ℕ). same z p) p_is ∙ same-self p))
             (word_here s i x s.homes id v w me (omega (arith, kept.home.seats.words))))
-            (omega (arith, may.room)) (kept.home.seats.slots id v me) refl (λ z. absurd (no_desk_in may.has (kept.home.seats.spent id v me z)))
+            (omega (arith, may.room)) (kept.home.seats.slots id v me) refl (λ z. absurd (no_desk_in may.has (ap (λ (l : Locks). l.db) (kept.home.seats.spent id v me z))))
             (numbers_same c (opens f) (number s) (number next') numbers (numbers-opens a c later before f p made (number s) lawful journal at_idle))
             (rights_stay kept.work (opens f) (number s) (number next') (slot s) (slot next') s.views id v w me (low_id books disk cell body s kept id v w me) refl numbers (λ j l. else (slot_word j) (λ z. omega arith)) (λ l g q. sym (ap (λ (z : Work). fit z g l q) rests)) (λ j. sym (ap (middle j) rests)) kept.sweep.right)
             tt

@@ -23,7 +23,7 @@ use Rattle.sv_rule.specs.Supers.{pack}
 use Rattle.sv_rule.specs.Sweep.{Right, lent}
 use Rattle.sv_rule.specs.Table.{names, number, slot, slot_home, slot_of, slot_word, spot}
 use Rattle.sv_rule.specs.UnderWay.{Stock, fit, middle}
-use Rattle.sv_rule.specs.Views.{Body, Desk, Disk, Joined, LaneView, SlotView, Work, away, borrow, held, idle}
+use Rattle.sv_rule.specs.Views.{Body, Desk, Disk, Joined, LaneView, Locks, SlotView, Work, away, borrow, held, idle}
 use Rattle.sv_rule.specs.declared.parts.Stored.{Stored}
 use Rattle.sv_rule.specs.declared.parts.Stored.TheVariants as is
 use Rattle.sv_rule.proofs.Assembly.{M, N, kept-by-slot, low_id, m_else, m_here, m_numbers}
@@ -69,7 +69,7 @@ module _ {S D C B : Type 0} (books : S → Books) (disk : D → Disk) (cell : C 
       → hand_view w ≡ hand_view v → (v.seat.spent ≡ false → Accounts kept.b w.known) → ((r : SvRef B) → get_elem? homes (slot_home (spot id f)) ≡ some (some (is.Cached r)) → BodyFits kept.b (record { pack = r.pack; body = body r.body.value }))
       → Right (fit kept.work f id (number s f)) (middle (spot id f) kept.work) x (number s f) (at 0 w.slots.cached f) X
       → FreshOf kept.b (number s f) f X (at 0 w.slots.cached f) (at 0 v.slots.looked f) (at 0 v.known.seen f) → Kept books disk cell body (M books disk cell body s kept id v w me (spot id f) x lane_lt homes)
-  kept_by_own w x X homes long others ok moves slots_are cached_else looks seen desk owed few shaped stand stock hands mine fits_here right fresh = let i = spot id f in let N = M books disk cell body s kept id v w me i x lane_lt homes in
+  kept_by_own w x X homes long others ok moves slots_are cached_else looks seen desk owed few shaped stand stock hands mine fits_here right fresh = let same_locks : w.locks ≡ v.locks = λ k. record { db = desk k; cell = (hands k).3; dir = (hands k).6 } in let i = spot id f in let N = M books disk cell body s kept id v w me i x lane_lt homes in
       let rest = rest-stays books disk cell body s kept id v w me (slot_word i) x homes hands kept.work (omega arith) (λ k l. others k (λ e. omega arith)) mine
       (silent-stands kept.b kept.work kept.work kept.start kept.d (number s) (number N) s.views id v w me hands (m_numbers books disk cell body s kept id v w me i x lane_lt homes) (λ g z. z) kept.in_hand)
       (λ k r l e. dite (ℕ_discrete k i) (λ z. fits_here r (ap (λ j. get_elem? homes (slot_home j)) (sym z) ∙ e)) (λ z. kept.held.bodies k r l (sym (others (slot_home k) (λ y. z (omega arith))) ∙ e))) in
@@ -79,7 +79,7 @@ module _ {S D C B : Type 0} (books : S → Books) (disk : D → Disk) (cell : C 
       (db-same books disk cell body s kept id v w me desk) (owners-same books disk cell body s kept id v w me desk) rest
       (λ q l. omega (arith, moves q l, total-put (names q) away refl v.slots.slot f X, ap (total (names q)) slots_are)) owed few
       (subst (λ (z : List SlotView). length z ≤ 16) (sym slots_are) (length-put away v.slots.slot f X 16 (kept.home.seats.slots id v me) near)) shaped
-      (λ z. desk ∙ kept.home.seats.spent id v me (ap (λ (y : Bool × ℕ × ℕ × ℕ × List Joined). y.0) (sym shaped) ∙ z)) kept.numbers
+      (λ z. same_locks ∙ kept.home.seats.spent id v me (ap (λ (y : Bool × ℕ × ℕ × ℕ × List Joined). y.0) (sym shaped) ∙ z)) kept.numbers
       (spots_set (λ l g c y. Right (fit kept.work g l (number s g)) (middle (spot l g) kept.work) (slot N (spot l g)) (number s g) c y) s.views id v w me
       (λ g l. dite (ℕ_discrete g f)
       (λ e. subst (λ (z : ℕ). Right (fit kept.work z id (number s z)) (middle (spot id z) kept.work) (slot N (spot id z)) (number s z) (at 0 w.slots.cached z) (slot_of w z)) (sym e)

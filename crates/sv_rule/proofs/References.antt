@@ -9,6 +9,7 @@ use Rattle.sv_model.specs.Books.{Books}
 use Rattle.sv_model.specs.Cells.{Cell}
 use Rattle.sv_model.specs.Lists.{In, same, total}
 use Rattle.sv_model.specs.TableTextFields.{after}
+use Rattle.sv_rule.specs.Blanks.{no_locks}
 use Rattle.sv_rule.specs.Fits.{BodyFits}
 use Rattle.sv_rule.specs.Home.{IsState, Lock}
 use Rattle.sv_rule.specs.InHand.{Accounts}
@@ -25,7 +26,7 @@ use Rattle.sv_rule.specs.UnderWay.{Apart, Stock, excepts, fit}
 use Rattle.sv_rule.specs.Views.{Bodied, Body, Desk, Disk, LaneView, SlotView, Work, begun, idle, opens, sweeping}
 use Rattle.sv_rule.specs.declared.parts.Stored.{Stored}
 use Rattle.sv_rule.proofs.Assembly.{Desks, kept-by-word, low_id}
-use Rattle.sv_rule.proofs.Basics.{by_desk, every_cons, every_none}
+use Rattle.sv_rule.proofs.Basics.{by_desk, every_cons, every_none, true_not}
 use Rattle.sv_rule.proofs.DbLock.{db-desk, db-same, owners-desk, owners-same}
 use Rattle.sv_rule.proofs.Drops.{WorkOk, lowers_ok}
 use Rattle.sv_rule.proofs.FreshTurns.{stock-more}
@@ -73,7 +74,7 @@ module _ {S D C B : Type 0} (books : S → Books) (disk : D → Disk) (cell : C 
 
   pub kept-by-reference : (work : Work) → Lock (IsState {S = S} {D = D} {C = C} {B = B} books kept.b work) has_db (word s 0) (home s 0) R.views → Desks kept.b work R.views → ((f : ℕ) → 0 < excepts f work → 0 < excepts f kept.work) → (v.seat.spent ≡ false → Accounts kept.b w.known) → hand_view w ≡ hand_view v
       → Places kept.b.supers (reference R) (holders R) (owers R) → length w.hand ≤ most_hand
-      → fresh_view w ≡ fresh_view v → seat_view w ≡ seat_view v → (w.seat.spent ≡ true → w.locks.db ≡ None)
+      → fresh_view w ≡ fresh_view v → seat_view w ≡ seat_view v → (w.seat.spent ≡ true → w.locks ≡ no_locks)
       → Numbers kept.b work (number s) → Rights work (number s) (slot s) s.views → Apart (number s) work → ((d : Desk) → w.locks.db ≡ Some d → Stock d.books d.work w.hand) → rounds_of work ≡ rounds_of kept.work → rounds_view w ≡ rounds_view v → Kept books disk cell body R
   kept-by-reference work lock desks less mine hands places few stand shaped dead numbers rights apart stock same_work same_rounds =
       kept-by-word books disk cell body s kept id v w me (reference_word k) x (omega arith) (omega arith) kept.b work lock desks
@@ -155,7 +156,7 @@ module _ {S D C B : Type 0} (books : S → Books) (disk : D → Disk) (cell : C 
         tt,
         by_desk v.locks.db
             (λ none. let stand : w.locks.db ≡ v.locks.db = ap (lowers p) none ∙ sym none in
-            kept-by-reference books disk cell body s kept id v w me k x near kept.work (db-same books disk cell body s kept id v w me stand) (owners-same books disk cell body s kept id v w me stand) (λ f z. z) (λ _. kept.in_hand.accounts id v me alive) (λ i. (v.seat, v.known.task, v.counts.faults, v.locks.cell, option_map (λ (d : Desk). d.due) (stand i), v.joined, v.locks.dir, v.known.lane, v.known.start)) places small refl refl (λ _. stand ∙ none)
+            kept-by-reference books disk cell body s kept id v w me k x near kept.work (db-same books disk cell body s kept id v w me stand) (owners-same books disk cell body s kept id v w me stand) (λ f z. z) (λ _. kept.in_hand.accounts id v me alive) (λ i. (v.seat, v.known.task, v.counts.faults, v.locks.cell, option_map (λ (d : Desk). d.due) (stand i), v.joined, v.locks.dir, v.known.lane, v.known.start)) places small refl refl (λ z. absurd (true_not (sym z ∙ alive)))
             kept.numbers kept.sweep.right kept.sweep.apart (λ d e. absurd (nothing_some (sym none ∙ (sym stand ∙ e)))) refl refl)
             (λ d is. let h = kept.home.desks id v me d is in let d' : Desk = record { books = d.books; work = lowered p d.work; due = d.due } in let is' : w.locks.db ≡ Some d' = ap (lowers p) is in
             let ok : WorkOk d.books d.work (number s) (slot s) s.views v.hand = record {

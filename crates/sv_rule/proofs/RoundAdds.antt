@@ -30,7 +30,7 @@ use Rattle.sv_rule.specs.Supers.{current_of, has_current}
 use Rattle.sv_rule.specs.Table.{holders, number, number_word, owers, owes, reference, reference_word, slot, slot_word, word}
 use Rattle.sv_rule.specs.Turns.{EndsCurrent, Turns}
 use Rattle.sv_rule.specs.UnderWay.{Stock, excepts, fit, middle}
-use Rattle.sv_rule.specs.Views.{Body, Desk, Disk, Joined, LaneView, Seat, Task, Work, begun, idle, opens}
+use Rattle.sv_rule.specs.Views.{Body, Desk, Disk, Joined, LaneView, Locks, Seat, Task, Work, begun, idle, opens}
 use Rattle.sv_rule.specs.declared.parts.Stored.{Stored}
 use Rattle.sv_rule.proofs.Assembly.{N, kept-by-word, low_id, stays}
 use Rattle.sv_rule.proofs.Basics.{at_desk, every_map, no_desk_in, some_is, true_not, views-else, views-here}
@@ -126,7 +126,7 @@ module _ {S D C B : Type 0} (books : S → Books) (disk : D → Disk) (cell : C 
             (places_same b.supers (reference s) (reference next') (holders s) (holders next') (owers s) (owers next') (λ k l. else (reference_word k) (λ z. omega arith))
             (λ q l. omega (arith, holders_by_view s 82 x s.homes id v w me (λ f l e. omega arith) (λ f l e. omega arith) q))
             (λ q l. omega (arith, views_move s 82 x s.homes id v w me (owes q))) kept.ledger.places)
-            (kept.ledger.hands id v me) (kept.home.seats.slots id v me) refl (λ z. absurd (no_desk_in has (kept.home.seats.spent id v me z)))
+            (kept.ledger.hands id v me) (kept.home.seats.slots id v me) refl (λ z. absurd (no_desk_in has (ap (λ (l : Locks). l.db) (kept.home.seats.spent id v me z))))
             (numbers_same b (begun f) (number s) (number next') numbers (numbers-work b (opens f) (begun f) (number s) (λ g. refl) (subst (λ (z : Work). Numbers b z (number s)) is_set kept.numbers)))
             (rights_stay kept.work (begun f) (number s) (number next') (slot s) (slot next') s.views id v w me (low_id books disk cell body s kept id v w me) refl numbers (λ j l. else (slot_word j) (λ z. omega arith))
             (λ l g c. sym (ap (λ (z : Work). fit z g l c) is_set)) (λ j. sym (ap (middle j) is_set)) kept.sweep.right)
@@ -168,7 +168,7 @@ module _ {S D C B : Type 0} (books : S → Books) (disk : D → Disk) (cell : C 
             (places_same a.supers (reference s) (reference next') (holders s) (holders next') (owers s) (owers next') (λ k l. else (reference_word k) (λ z. omega arith))
             (λ q l. omega (arith, holders_by_view s 82 x s.homes id v w me (λ f l e. omega arith) (λ f l e. omega arith) q))
             (λ q l. omega (arith, views_move s 82 x s.homes id v w me (owes q))) kept.ledger.places))
-            (kept.ledger.hands id v me) (kept.home.seats.slots id v me) refl (λ z. absurd (no_desk_in may.has (kept.home.seats.spent id v me z)))
+            (kept.ledger.hands id v me) (kept.home.seats.slots id v me) refl (λ z. absurd (no_desk_in may.has (ap (λ (l : Locks). l.db) (kept.home.seats.spent id v me z))))
             (numbers_same c (begun f) (number s) (number next') numbers (numbers-ended a c later f ended (number s) lawful journal (omega (arith, number_is, big)) at_idle))
             (rights_stay kept.work (begun f) (number s) (number next') (slot s) (slot next') s.views id v w me (low_id books disk cell body s kept id v w me) refl numbers (λ j l. else (slot_word j) (λ z. omega arith))
             (λ l g q. sym (ap (λ (z : Work). fit z g l q) resting)) (λ j. sym (ap (middle j) resting)) kept.sweep.right)

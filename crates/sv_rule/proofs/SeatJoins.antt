@@ -8,7 +8,7 @@ use Rattle.atomic_table.specs.Table.{Joins, State}
 use Rattle.sv_model.specs.Books.{Books}
 use Rattle.sv_model.specs.Cells.{Cell}
 use Rattle.sv_model.specs.Lists.{Every, same, times, total}
-use Rattle.sv_rule.specs.Blanks.{no_start, nobody}
+use Rattle.sv_rule.specs.Blanks.{no_locks, no_start, nobody}
 use Rattle.sv_rule.specs.Home.{Seats}
 use Rattle.sv_rule.specs.InHand.{Accounts, IsClosing}
 use Rattle.sv_rule.specs.Rule.{Kept}
@@ -33,11 +33,11 @@ names_none : (q : ℕ) (l : List SlotView) → ((f : ℕ) → at away l f ≡ aw
 names_none q [] h = refl
 names_none q (x ∷ l) h = omega (arith, ap (names q) (h 0), names_none q l (λ f. h (suc f)))
 
-alive_one : LaneView → ℕ
+pub alive_one : LaneView → ℕ
 alive_one u = cond u.seat.spent 0 1
 
 -- each view is spent or not
-count_all : (vs : List LaneView) → total is_spent vs + total alive_one vs ≡ length vs
+pub count_all : (vs : List LaneView) → total is_spent vs + total alive_one vs ≡ length vs
 unfolding alive_one
 count_all [] = refl
 count_all (u ∷ vs) = omega (arith, one u.seat.spent, count_all vs)
@@ -46,7 +46,7 @@ count_all (u ∷ vs) = omega (arith, one u.seat.spent, count_all vs)
     one true = refl
     one false = refl
 
-is_alive : (u : LaneView) → u.seat.spent ≡ false → alive_one u ≡ 1
+pub is_alive : (u : LaneView) → u.seat.spent ≡ false → alive_one u ≡ 1
 unfolding alive_one
 is_alive u e = ap (λ (q : Bool). cond q 0 1) e
 
@@ -134,7 +134,7 @@ module _ {S D C B : Type 0} (books : S → Books) (disk : D → Disk) (cell : C 
             (both (λ j u. 0 < u.seat.made → (j ≡ 0) × (u.seat.made ≡ length s.views)) (λ z. absurd (omega arith)) (sh.made id v me) sh.made);
         ordered = both (λ j u. u.seat.spent ≡ false → u.known.lane ≡ j) (λ e. absurd (true_not e)) (sh.ordered id v me) sh.ordered;
         slots = both (λ j u. length u.slots.slot ≤ 16) (omega arith) (sh.slots id v me) sh.slots;
-        spent = both (λ j u. u.seat.spent ≡ true → u.locks.db ≡ None) (λ _. refl) (sh.spent id v me) sh.spent;
+        spent = both (λ j u. u.seat.spent ≡ true → u.locks ≡ no_locks) (λ _. refl) (sh.spent id v me) sh.spent;
         joined = omega (
           arith,
           total-set is_spent s.views id v b me,

@@ -22,7 +22,7 @@ use Rattle.sv_rule.specs.Table.{holders, home, number, number_word, owers, owes,
 use Rattle.sv_rule.specs.Tasks.{due_of, fill_count, fills, has_db, some_count}
 use Rattle.sv_rule.specs.Turns.{EndsSuper, NoneRetires, Turns}
 use Rattle.sv_rule.specs.UnderWay.{Stock}
-use Rattle.sv_rule.specs.Views.{Body, CellHeld, Desk, Disk, LaneView, Task}
+use Rattle.sv_rule.specs.Views.{Body, CellHeld, Desk, Disk, LaneView, Locks, Task}
 use Rattle.sv_rule.specs.declared.parts.Stored.{Stored}
 use Rattle.sv_rule.proofs.Assembly.{N, kept-by-word, low_id, stays}
 use Rattle.sv_rule.proofs.Basics.{at_desk, every_map, has_one, no_desk_in}
@@ -94,7 +94,7 @@ module _ {S D C B : Type 0} (books : S → Books) (disk : D → Disk) (cell : C 
             (λ q n. omega (arith, less q, same-else q p (λ e. n (sym e ∙ sym p_is))))
             (subst (λ (z : ℕ). owers next' z + 1 ≡ owers s z) (sym p_is) (omega (arith, less p, same-self p)))
             (live-gone a c later p cells gone) (live-stays a c later p cells gone))
-            (kept.ledger.hands id v me) (kept.home.seats.slots id v me) refl (λ z. absurd (no_desk_in may.has (kept.home.seats.spent id v me z)))
+            (kept.ledger.hands id v me) (kept.home.seats.slots id v me) refl (λ z. absurd (no_desk_in may.has (ap (λ (l : Locks). l.db) (kept.home.seats.spent id v me z))))
             (numbers_same c work (number s) (number next') numbers (numbers-gone a c later p cells gone work (number s) lawful journal kept.numbers))
             (rights_stay work work (number s) (number next') (slot s) (slot next') s.views id v w me (low_id books disk cell body s kept id v w me) refl numbers (λ j l. else (slot_word j) (λ z. omega arith)) (λ l g q. refl) (λ j. refl) kept.sweep.right)
             (apart_same (number s) (number next') work numbers kept.sweep.apart)

@@ -17,7 +17,7 @@ use Rattle.sv_model.specs.declared.records.Memtable.{Memtable}
 use Rattle.sv_model.proofs.FlatFirsts.{marks}
 use Rattle.sv_model.proofs.FlatKeys.{gone}
 use Rattle.sv_rule.specs.Begins.{FirstBooks, FirstCell, FirstSlots, FirstWords}
-use Rattle.sv_rule.specs.Blanks.{first_view}
+use Rattle.sv_rule.specs.Blanks.{first_view, no_locks}
 use Rattle.sv_rule.specs.Fresh.{FreshIn}
 use Rattle.sv_rule.specs.Held.{IsLent, Says, has_rows, is_vacant}
 use Rattle.sv_rule.specs.Ledger.{Places, most_hand}
@@ -175,7 +175,7 @@ module _ {S D C B : Type 0} (books : S → Books) (disk : D → Disk) (cell : C 
         made = each_one (λ j u. 0 < u.seat.made → (j ≡ 0) × (u.seat.made ≡ 1)) v (λ _. (refl, refl));
         ordered = each_one (λ j u. u.seat.spent ≡ false → u.known.lane ≡ j) v (λ _. refl);
         slots = each_one (λ j u. length u.slots.slot ≤ 16) v (omega arith);
-        spent = each_one (λ j u. u.seat.spent ≡ true → u.locks.db ≡ None) v (λ _. refl);
+        spent = each_one (λ j u. u.seat.spent ≡ true → u.locks ≡ no_locks) v (λ _. refl);
         joined = refl;
         below = each_one (λ j u. Every (λ o. o.known.lane < 1) u.joined) v (every_none (λ o. o.known.lane < 1));
         once = λ l. omega (arith, same_le l 0);

@@ -9,7 +9,7 @@ use Rattle.atomic_table.specs.Table.{State}
 use Rattle.sv_model.specs.Books.{Books}
 use Rattle.sv_model.specs.Lists.{Every, same, total}
 use Rattle.sv_model.specs.Places.{taken}
-use Rattle.sv_rule.specs.Blanks.{nobody}
+use Rattle.sv_rule.specs.Blanks.{no_locks, nobody}
 use Rattle.sv_rule.specs.Fresh.{Fresh, FreshIn, FreshOf}
 use Rattle.sv_rule.specs.Home.{Seats}
 use Rattle.sv_rule.specs.Ledger.{most_hand}
@@ -85,7 +85,7 @@ module _ {S : Type 0} (s : State S LaneView) (i x : ℕ) (homes : List (maybe.Op
 
   -- ---- seats
 
-  pub seats_step : Seats s → length homes ≡ length s.homes → length w.slots.slot ≤ 16 → seat_view w ≡ seat_view v → (w.seat.spent ≡ true → w.locks.db ≡ None) → Seats next
+  pub seats_step : Seats s → length homes ≡ length s.homes → length w.slots.slot ≤ 16 → seat_view w ≡ seat_view v → (w.seat.spent ≡ true → w.locks ≡ no_locks) → Seats next
   seats_step sh long few stand dead =
       let spent : w.seat.spent ≡ v.seat.spent = ap (λ (z : Bool × ℕ × ℕ × ℕ × List Joined). z.0) stand in
       let joined : w.joined ≡ v.joined = ap (λ (z : Bool × ℕ × ℕ × ℕ × List Joined). z.4) stand in
@@ -100,7 +100,7 @@ module _ {S : Type 0} (s : State S LaneView) (i x : ℕ) (homes : List (maybe.Op
             (each_set (λ j u. 0 < u.seat.made → (j ≡ 0) × (u.seat.made ≡ length s.views)) s.views id w (λ y. let made : w.seat.made ≡ v.seat.made = ap (λ (z : Bool × ℕ × ℕ × ℕ × List Joined). z.3) stand in let t = sh.made id v me (omega arith) in (t.0, made ∙ t.1)) sh.made);
         ordered = each_set (λ j u. u.seat.spent ≡ false → u.known.lane ≡ j) s.views id w (λ e. ap (λ (z : Bool × ℕ × ℕ × ℕ × List Joined). z.1) stand ∙ sh.ordered id v me (sym spent ∙ e)) sh.ordered;
         slots = each_set (λ j u. length u.slots.slot ≤ 16) s.views id w few sh.slots;
-        spent = each_set (λ j u. u.seat.spent ≡ true → u.locks.db ≡ None) s.views id w dead sh.spent;
+        spent = each_set (λ j u. u.seat.spent ≡ true → u.locks ≡ no_locks) s.views id w dead sh.spent;
         joined = let one : Bool → ℕ = λ b. cond b 1 0 in omega (arith, views_move is_spent, views_move joined_count, sh.joined, ap one spent, ap (λ (z : List Joined). length z) joined);
         below = subst (λ (z : ℕ). Each (λ j u. Every (λ o. o.known.lane < z) u.joined) (set s.views id w)) (sym same_length)
             (each_set (λ j u. Every (λ o. o.known.lane < length s.views) u.joined) s.views id w (subst (Every (λ o. o.known.lane < length s.views)) (sym joined) (sh.below id v me)) sh.below);

@@ -1,9 +1,9 @@
 -- What the making and the joining of a seat make of views, and what they need.
-use Rattle.std.specs.Prelude.{◌≡◌, ℕ, ◌+◌, ◌<◌, false, List, [], ◌∷◌, ◌++◌, None}
+use Rattle.std.specs.Prelude.{◌≡◌, ℕ, ◌+◌, ◌<◌, false, List, [], ◌∷◌, ◌++◌, None, length}
 use Rattle.sv_rule.specs.Sums.{at}
 use Rattle.sv_rule.specs.Table.{slot_of}
 use Rattle.sv_rule.specs.Views.{LaneView, Joined, away}
-use Rattle.sv_rule.specs.Blanks.{new_view}
+use Rattle.sv_rule.specs.Blanks.{new_view, no_locks}
 
 -- ---- a seat is made
 
@@ -43,3 +43,12 @@ pub record IsIdle (w : LaneView) : Type 0 where
   pub handles : w.known.task.handles ≡ 0 ∷ []
   pub output : w.known.task.output ≡ None
   pub job : w.known.task.job ≡ None
+
+-- ---- the end
+
+-- the first seat, into which all others were joined
+pub record IsLast (v : LaneView) : Type 0 where
+  pub alive : v.seat.spent ≡ false
+  pub locks : v.locks ≡ no_locks
+  pub first : 0 < v.seat.made
+  pub all : length v.joined + 1 ≡ v.seat.made
