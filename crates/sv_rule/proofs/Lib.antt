@@ -59,3 +59,6 @@ pub mod FirstBooks
 pub mod FirstWork
 pub mod Starts
 pub mod Closes
+pub mod Holding
+pub mod Installs
+pub mod Composing

@@ -24,3 +24,4 @@ pub mod SweepPlays
 pub mod LockPlays
 pub mod SeatPlays
 pub mod Begins
+pub mod Holding
