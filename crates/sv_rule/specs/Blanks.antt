@@ -1,7 +1,8 @@
 -- The views of new seats, and of a seat that was joined.
 use Rattle.std.specs.Prelude.{ℕ, Bool, true, false, List, [], ◌∷◌, Option, None, Some}
 use Rattle.sv_model.specs.Books.{Books}
-use Rattle.sv_rule.specs.Views.{Disk, Start, Task, Known, Work, Desk, Locks, Slots, Counts, Seat, LaneView, idle, opens, begun, sweeping}
+use Rattle.sv_model.specs.Families.{first_options}
+use Rattle.sv_rule.specs.Views.{Bodied, Disk, Start, Task, Known, Work, Desk, Locks, Slots, Counts, Seat, LaneView, idle, opens, begun, sweeping}
 
 abbrev pub no_books : Books
 no_books = record {
@@ -19,6 +20,12 @@ no_books = record {
 
 abbrev pub no_start : Start
 no_start = record { disk = record { files = None; faults = 0 }; books = no_books }
+
+abbrev pub no_bodied : Bodied
+no_bodied = record {
+  pack = 0;
+  body = record { descriptor = record { family = 0; active = 0; list = 0; version = 0; base = 0; options = first_options }; cell = 0; frozen = []; files = [] };
+}
 
 abbrev pub no_desk : Desk
 no_desk = record { books = no_books; work = idle; due = [] }
