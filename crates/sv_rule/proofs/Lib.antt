@@ -62,3 +62,5 @@ pub mod Closes
 pub mod Holding
 pub mod Installs
 pub mod Composing
+pub mod SmallWorld
+pub mod SmallParts
