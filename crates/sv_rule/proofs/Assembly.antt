@@ -1,5 +1,5 @@
 -- What is left to show of a step on a word.
-use Rattle.std.proofs.Common.{List, None, Option, Some, ap, arith, length, refl, subst, sym, true, ℕ, ◌+◌, ◌<◌, ◌≡◌, ◌≢◌, ◌≤◌}
+use Rattle.std.proofs.Common.{List, Option, Some, ap, arith, length, refl, subst, sym, true, ℕ, ◌+◌, ◌<◌, ◌≡◌, ◌≢◌, ◌≤◌}
 use mathlib.Core.Logic.{dite}
 use mathlib.Core.Option.{some}
 use mathlib.Core.Option as maybe
@@ -9,7 +9,6 @@ use Rattle.atomic_table.specs.Table.{State, rest}
 use Rattle.sv_model.specs.Books.{Books}
 use Rattle.sv_model.specs.Cells.{Cell}
 use Rattle.sv_model.specs.Lists.{same, total}
-use Rattle.sv_model.specs.TableTextFields.{start}
 use Rattle.sv_rule.specs.Blanks.{no_locks}
 use Rattle.sv_rule.specs.Fresh.{Fresh, FreshOf}
 use Rattle.sv_rule.specs.Home.{IsState, Lock, SlotOk}
@@ -137,9 +136,12 @@ module _ {S D C B : Type 0} (books : S → Books) (disk : D → Disk) (cell : C 
             (λ e. subst (λ (z : ℕ). SlotOk (slot M z) (get_elem? homes (slot_home z))) (sym e) (subst (λ (z : ℕ). SlotOk z (get_elem? homes (slot_home i))) (sym m_here) ok))
             (λ n. subst (λ (z : ℕ × Box (Stored S D C B)). SlotOk z.0 z.1) (λ c. (sym (m_else k n) c, sym (others (slot_home k) (λ z. n (omega arith))) c)) (kept.home.slots k l));
       };
-      ledger = record { places = places_same kept.b.supers (reference s) (reference M) (holders s) (holders M) (owers s) (owers M) (λ k l. m_stays (reference_word k) (λ z. omega arith))
-          (λ q l. omega (arith, holders_by_slot s (slot_word i) x homes id v w me i refl near (omega (arith, kept.home.seats.words)) q, moves q l))
-          (λ q l. omega (arith, views_move s (slot_word i) x homes id v w me (owes q), ap (total (same q)) owed)) kept.ledger.places; hands = hands_step s (slot_word i) x homes id v w me kept.ledger.hands few };
+      ledger = record {
+        places = places_same kept.b.supers (reference s) (reference M) (holders s) (holders M) (owers s) (owers M) (λ k l. m_stays (reference_word k) (λ z. omega arith))
+            (λ q l. omega (arith, holders_by_slot s (slot_word i) x homes id v w me i refl near (omega (arith, kept.home.seats.words)) q, moves q l))
+            (λ q l. omega (arith, views_move s (slot_word i) x homes id v w me (owes q), ap (total (same q)) owed)) kept.ledger.places;
+        hands = hands_step s (slot_word i) x homes id v w me kept.ledger.hands few;
+      };
       numbers = numbers_same kept.b work (number s) (number M) m_numbers numbers;
       sweep = record {
         right = λ l f a b. subst (λ (z : ℕ). Right (fit work f l z) (middle (spot l f) work) (slot M (spot l f)) z (cached_at M.views l f) (slot_at M.views l f)) (sym (m_numbers f b)) (rights l f a b);

@@ -5,10 +5,9 @@ use lib.ListN.{get_elem?}
 use Rattle.sv_model.specs.Books.{Books}
 use Rattle.sv_model.specs.Cells.{Cell}
 use Rattle.sv_model.specs.Lawful.{Lawful}
-use Rattle.sv_model.specs.Lists.{Every, In, bit, same, times, total}
+use Rattle.sv_model.specs.Lists.{Every, In, bit, times, total}
 use Rattle.sv_model.specs.declared.records.Memtable.{Memtable}
 use Rattle.sv_model.proofs.FlatKeys.{gone}
-use Rattle.sv_model.proofs.SearchLaws.{found}
 use Rattle.sv_rule.specs.Fits.{BodyFits, cell_of}
 use Rattle.sv_rule.specs.Fresh.{floor_of}
 use Rattle.sv_rule.specs.Held.{CellSays, Occupied, Says, fills_up, has_rows, is_due, is_vacant}
@@ -16,7 +15,7 @@ use Rattle.sv_rule.specs.LockPlays.{FindsAsBody, FindsAsBooks, HasMem, HasRef}
 use Rattle.sv_rule.specs.Sums.{at}
 use Rattle.sv_rule.specs.Supers.{LiveAt, end_at}
 use Rattle.sv_rule.specs.Sweep.{pack_of}
-use Rattle.sv_rule.specs.Table.{names, slot_of}
+use Rattle.sv_rule.specs.Table.{slot_of}
 use Rattle.sv_rule.specs.Tasks.{cell_count, due_count, due_of, dues, fill_count, fills, has_cell, has_db}
 use Rattle.sv_rule.specs.Views.{Bodied, CellHeld, Desk, FrozenAt, LaneView, Work}
 use Rattle.sv_rule.proofs.Assembly.{Desks}
@@ -26,7 +25,6 @@ use Rattle.sv_rule.proofs.CellReads.{active-end, family_le}
 use Rattle.sv_rule.proofs.LaterBooks.{get-map}
 use Rattle.sv_rule.proofs.RefLaws.{body-big, body-live, names-live}
 use Rattle.sv_rule.proofs.Sums.{term_le, total_none}
---+ has_rows fills_up is_vacant is_due some
 
 -- whoever is to fill a cell has its lock
 pub fills_le : (c : ℕ) (v : LaneView) → fills c v ≤ has_cell c v

@@ -11,17 +11,14 @@ use Rattle.sv_model.specs.Cells.{Cell}
 use Rattle.sv_model.specs.Lists.{times, total}
 use Rattle.sv_model.specs.TableTextFields.{start}
 use Rattle.sv_model.specs.declared.writes.Write.{Write}
-use Rattle.sv_model.proofs.FlatReads.{within}
 use Rattle.sv_rule.specs.Held.{FilesHeld, IsCell, IsLent, Says}
 use Rattle.sv_rule.specs.Home.{IsDir, IsState, Lock}
 use Rattle.sv_rule.specs.InHand.{Accounts}
 use Rattle.sv_rule.specs.Rule.{Kept}
-use Rattle.sv_rule.specs.Supers.{pack}
-use Rattle.sv_rule.specs.Sweep.{lent}
 use Rattle.sv_rule.specs.Table.{Box, cell_word, home, number, number_word, slot_home, word}
 use Rattle.sv_rule.specs.Tasks.{faults, has_cell, has_db, has_dir, some_count}
 use Rattle.sv_rule.specs.Turns.{Stands, Turns}
-use Rattle.sv_rule.specs.Views.{Body, CellHeld, Disk, Joined, LaneView, Seat, borrow, idle}
+use Rattle.sv_rule.specs.Views.{Body, CellHeld, Disk, Joined, LaneView, Seat, idle}
 use Rattle.sv_rule.specs.declared.parts.Stored.{Stored}
 use Rattle.sv_rule.proofs.Assembly.{Desks}
 use Rattle.sv_rule.proofs.Basics.{each_other, each_set}
@@ -32,7 +29,6 @@ use Rattle.sv_rule.proofs.InHandTurns.{work-turns}
 use Rattle.sv_rule.proofs.LockGoes.{kept-by-other-lock}
 use Rattle.sv_rule.proofs.LockLaws.{lock-else}
 use Rattle.sv_rule.proofs.Stepping.{next, rounds_view, view_same, word_else, word_here}
---+ borrow
 
 module _ {S D C B : Type 0} (books : S → Books) (disk : D → Disk) (cell : C → Option Cell) (body : B → Body) where
   abbrev pub Cells : Books → List LaneView → ℕ → Stored S D C B → Type 0

@@ -3,7 +3,6 @@ use Rattle.std.proofs.Common.{List, Option, Some, [], ap, arith, cond, false, ne
 use Rattle.std.proofs.lemmas.List.Elements.{filter-append}
 use Rattle.sv_model.specs.Cells.{Cell}
 use Rattle.sv_model.specs.Journal.{borne_by, rows_of}
-use Rattle.sv_model.specs.Lists.{same}
 use Rattle.sv_model.specs.Registers.{EachEntry, entry}
 use Rattle.sv_model.specs.declared.records.Memtable.{Memtable}
 use Rattle.sv_model.specs.declared.writes.Write.{Write}
@@ -14,7 +13,6 @@ use Rattle.sv_rule.specs.Sums.{at}
 use Rattle.sv_rule.specs.Turns.{EndsMemtables}
 use Rattle.sv_rule.proofs.Basics.{append_none, some_is, true_not}
 use Rattle.sv_rule.proofs.LaterBooks.{entry-some}
---+ has_rows fills_up is_vacant is_due
 
 -- a cell may be due more often, and its lock be had by more
 pub says-more : (memtables : List Memtable) (journal : List Write) (due due' fill fill' c : ℕ) (x : Option Cell) → due ≤ due' → fill ≤ fill' → CellSays memtables journal due fill c x → CellSays memtables journal due' fill' c x

@@ -3,7 +3,6 @@ use Rattle.std.proofs.Common.{Bool, List, None, Option, Some, [], ap, arith, con
 use Rattle.std.proofs.lemmas.List.{length-map}
 use Rattle.std.specs.List.{list_any}
 use mathlib.Core.Logic.{dite}
-use mathlib.Core.Option.{some}
 use native.Mathlib.Decide.{ℕ_discrete}
 use Rattle.sv_model.specs.After.{Continues}
 use Rattle.sv_model.specs.Books.{Books, end_of}
@@ -11,7 +10,7 @@ use Rattle.sv_model.specs.Cells.{Cell}
 use Rattle.sv_model.specs.Described.{BearsFrom}
 use Rattle.sv_model.specs.Journal.{borne_by, of_family, row_of, rows_of}
 use Rattle.sv_model.specs.Lawful.{Lawful}
-use Rattle.sv_model.specs.Lists.{Every, same}
+use Rattle.sv_model.specs.Lists.{Every}
 use Rattle.sv_model.specs.Registers.{entry}
 use Rattle.sv_model.specs.declared.records.Memtable.{Memtable}
 use Rattle.sv_model.specs.declared.writes.Write.{Write}
@@ -29,7 +28,6 @@ use Rattle.sv_rule.specs.Views.{Bodied, Desk, FrozenAt, LaneView, RowsRead}
 use Rattle.sv_rule.proofs.Basics.{append_none, every_push, some_is}
 use Rattle.sv_rule.proofs.LaterBooks.{get-map}
 use Rattle.sv_rule.proofs.Sums.{at-put_else, at-put_same}
---+ has_rows fills_up is_vacant is_due some
 
 -- ---- what is raised
 

@@ -10,17 +10,14 @@ use Rattle.sv_model.specs.Cells.{Cell}
 use Rattle.sv_model.specs.Journal.{by_lane, of_family}
 use Rattle.sv_model.specs.Lists.{Every, same, times, total}
 use Rattle.sv_model.specs.Registers.{entry}
-use Rattle.sv_model.specs.TableTextFields.{start}
 use Rattle.sv_model.specs.declared.records.Memtable.{Memtable}
 use Rattle.sv_model.specs.declared.writes.Write.{Write}
 use Rattle.sv_model.proofs.AfterLaws.{continues-itself}
-use Rattle.sv_model.proofs.SearchLaws.{found}
 use Rattle.sv_rule.specs.Fits.{Fits}
 use Rattle.sv_rule.specs.Held.{CellSays, Says}
 use Rattle.sv_rule.specs.Home.{Lock}
 use Rattle.sv_rule.specs.LockPlays.{IsOneWrite, MayWriteCell, WroteCell, without_cell, wrote_cell}
 use Rattle.sv_rule.specs.Rule.{Kept}
-use Rattle.sv_rule.specs.Sums.{at}
 use Rattle.sv_rule.specs.Table.{Box, cell_word, home, number, word}
 use Rattle.sv_rule.specs.Tasks.{dues, fills, has_cell, has_db}
 use Rattle.sv_rule.specs.Turns.{Stands, Turns}
@@ -35,7 +32,6 @@ use Rattle.sv_rule.proofs.CellReads.{eq-is, raised_le}
 use Rattle.sv_rule.proofs.Cells.{cell_at, cell_one, no_held}
 use Rattle.sv_rule.proofs.DbLock.{db-desk, owners-desk}
 use Rattle.sv_rule.proofs.FitLaws.{fits-after}
-use Rattle.sv_rule.proofs.Frames.{frames}
 use Rattle.sv_rule.proofs.InHandTurns.{ended-turn, removed-turn}
 use Rattle.sv_rule.proofs.LockLaws.{lock-gave}
 use Rattle.sv_rule.proofs.Resting.{says-books, says-step}

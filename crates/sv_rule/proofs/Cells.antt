@@ -9,14 +9,10 @@ use Rattle.sv_model.specs.Books.{Books}
 use Rattle.sv_model.specs.Cells.{Cell}
 use Rattle.sv_model.specs.Journal.{of_family}
 use Rattle.sv_model.specs.Lists.{same, total}
-use Rattle.sv_model.specs.TableTextFields.{start}
-use Rattle.sv_model.proofs.FlatReads.{within}
-use Rattle.sv_model.proofs.SearchLaws.{found}
 use Rattle.sv_rule.specs.Held.{IsLent, Says}
 use Rattle.sv_rule.specs.Home.{Lock}
 use Rattle.sv_rule.specs.LockPlays.{GaveCell, MayGiveCell, TookCell, gave_cell, took_cell}
 use Rattle.sv_rule.specs.Rule.{Kept}
-use Rattle.sv_rule.specs.Sweep.{lent}
 use Rattle.sv_rule.specs.Table.{Box, cell_word, home, number, word}
 use Rattle.sv_rule.specs.Tasks.{cell_count, dues, fill_count, fills, has_cell, has_db, some_count}
 use Rattle.sv_rule.specs.Views.{Body, CellHeld, Desk, Disk, LaneView}
@@ -27,13 +23,11 @@ use Rattle.sv_rule.proofs.CellFinds.{fills_le, finds-body, finds-books}
 use Rattle.sv_rule.proofs.CellGoes.{Cells, by_cell}
 use Rattle.sv_rule.proofs.CellReads.{cut_le, raised_le, reads-fit}
 use Rattle.sv_rule.proofs.DbLock.{db-same, owners-same}
-use Rattle.sv_rule.proofs.Frames.{frames}
 use Rattle.sv_rule.proofs.LockLaws.{lock-gave, lock-took}
 use Rattle.sv_rule.proofs.RefLaws.{ref-live}
 use Rattle.sv_rule.proofs.Resting.{says-step}
 use Rattle.sv_rule.proofs.Sums.{same-else, same_one, term_le, terms_le}
 use Rattle.sv_rule.proofs.TurnsSame.{stands-same, turns-same}
---+ none
 
 pub held_is : (x y : CellHeld) → Some x ≡ Some y → x ≡ y
 held_is x y e = some_is e

@@ -10,7 +10,6 @@ use Rattle.sv_rule.specs.Sweep.{Right, lent, pack_of}
 use Rattle.sv_rule.specs.Table.{names, slot_of}
 use Rattle.sv_rule.specs.Views.{Desk, LaneView, SlotView, Work, away, begun, borrow, held, idle, opens, sweeping}
 use Rattle.sv_rule.proofs.Basics.{by_desk}
---+ away held borrow
 
 pub by_bool : {A : Type 0} (b : Bool) → (b ≡ true → A) → (b ≡ false → A) → A
 by_bool true f g = f refl
@@ -82,4 +81,3 @@ lends_is f r v e = by_bool (is_free (slot_of v f))
     (λ c. absurd (true_false e ((λ k. cond (a k) (cond (b k) (cond (c k) (nat_le 1 (total (same r) v.hand)) false) false) false) ∙ refl))))
     (λ b. absurd (true_false e ((λ k. cond (a k) (cond (b k) (cond (nat_le 256 r) (nat_le 1 (total (same r) v.hand)) false) false) false) ∙ refl))))
     (λ a. absurd (true_false e ((λ k. cond (a k) (cond (is_idle v.locks.db) (cond (nat_le 256 r) (nat_le 1 (total (same r) v.hand)) false) false) false) ∙ refl)))
-

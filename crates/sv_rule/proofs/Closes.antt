@@ -7,7 +7,7 @@ use lib.ListN.{get_elem?}
 use Rattle.atomic_table.specs.Table.{State}
 use Rattle.sv_model.specs.Books.{Books}
 use Rattle.sv_model.specs.Cells.{Cell}
-use Rattle.sv_model.specs.Lists.{same, total}
+use Rattle.sv_model.specs.Lists.{total}
 use Rattle.sv_rule.specs.Blanks.{no_locks}
 use Rattle.sv_rule.specs.Held.{Says}
 use Rattle.sv_rule.specs.Rule.{Kept}
@@ -20,7 +20,6 @@ use Rattle.sv_rule.specs.declared.parts.Stored.TheVariants as is
 use Rattle.sv_rule.proofs.Checks.{by_bool}
 use Rattle.sv_rule.proofs.SeatJoins.{alive_one, count_all, is_alive}
 use Rattle.sv_rule.proofs.Sums.{term_le, terms_le, total-zero}
---+ some
 
 module _ {S D C B : Type 0} (books : S → Books) (disk : D → Disk) (cell : C → Option Cell) (body : B → Body) (s : State (Stored S D C B) LaneView) (kept : Kept books disk cell body s) (id : ℕ) (v : LaneView) (me : get_elem? s.views id ≡ some v) (last : IsLast v) where
   others_spent : (j : ℕ) (u : LaneView) → j ≢ id → get_elem? s.views j ≡ some u → u.seat.spent ≡ true

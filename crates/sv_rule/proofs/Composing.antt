@@ -4,22 +4,15 @@ use Rattle.sv_model.specs.Books.{Books}
 use Rattle.sv_model.specs.Lists.{In, same}
 use Rattle.sv_model.specs.Numbers.{having}
 use Rattle.sv_model.specs.Summaries.{is_gone}
-use Rattle.sv_model.specs.TableText.{written}
 use Rattle.sv_model.specs.declared.writes.Write.{Write}
 use Rattle.sv_model.proofs.AfterLaws.{after-through}
 use Rattle.sv_model.proofs.FlatFirsts.{marks}
-use Rattle.sv_model.proofs.FlatKeys.{gone}
 use Rattle.sv_model.proofs.Lists.{total_at}
-use Rattle.sv_rule.specs.Sums.{at}
-use Rattle.sv_rule.specs.Table.{holds, number}
 use Rattle.sv_rule.specs.Tasks.{grabs, has_job, job_count, marks_of}
 use Rattle.sv_rule.specs.Turns.{IsFresh, IsOutput, IsWritten, Stands, Turns, taken_mark}
-use Rattle.sv_rule.specs.UnderWay.{begins}
 use Rattle.sv_rule.specs.Views.{Mark, Output, Task}
 use Rattle.sv_rule.proofs.Basics.{every_append, some_is}
 use Rattle.sv_rule.proofs.LaterBooks.{in-more}
-use Rattle.sv_rule.proofs.Metas.{covered}
-use Rattle.sv_rule.proofs.Stepping.{next}
 use Rattle.sv_rule.proofs.Sums.{same-self}
 
 mark-grabs : (n : ℕ) (t : Task) → In (taken_mark n) (marks_of t.job) → 1 ≤ grabs n t

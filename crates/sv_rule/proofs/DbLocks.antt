@@ -8,9 +8,7 @@ use Rattle.sv_model.specs.After.{After}
 use Rattle.sv_model.specs.Books.{Books}
 use Rattle.sv_model.specs.Cells.{Cell}
 use Rattle.sv_model.specs.Lists.{times}
-use Rattle.sv_model.specs.TableTextFields.{start}
 use Rattle.sv_model.proofs.AfterLaws.{after-itself}
-use Rattle.sv_model.proofs.SearchLaws.{found}
 use Rattle.sv_rule.specs.Fits.{BodyFits}
 use Rattle.sv_rule.specs.Home.{IsState, Lock}
 use Rattle.sv_rule.specs.LockPlays.{GaveDb, IsTold, MayGiveDb, MayTakeDb, TookDb, gave_db, took_db}
@@ -24,12 +22,10 @@ use Rattle.sv_rule.specs.declared.parts.Stored.TheVariants as is
 use Rattle.sv_rule.proofs.Basics.{each_other, each_set, every_map, every_push, has_one, no_db, some_is}
 use Rattle.sv_rule.proofs.DbGoes.{kept-by-db}
 use Rattle.sv_rule.proofs.FitLaws.{body-after}
-use Rattle.sv_rule.proofs.Frames.{frames}
 use Rattle.sv_rule.proofs.LockLaws.{alone, lock-gave, lock-none, lock-took}
 use Rattle.sv_rule.proofs.Told.{told}
 use Rattle.sv_rule.proofs.TurnRest.{mine-turns}
 use Rattle.sv_rule.proofs.TurnsSame.{stands-same, turns-same}
---+ none
 
 -- the state that lies in front, or st
 state_in : {S D C B : Type 0} → S → List (ℕ × Stored S D C B) → S

@@ -16,19 +16,16 @@ use Rattle.sv_model.specs.Numbers.{having, is_grabbed, is_live, is_pending, regi
 use Rattle.sv_model.specs.Reads.{IsCapturedFor}
 use Rattle.sv_model.specs.Registers.{EachEntry, Has, change}
 use Rattle.sv_model.specs.Summaries.{is_gone, is_obsolete}
-use Rattle.sv_model.specs.TableText.{covers, written}
-use Rattle.sv_model.specs.TableTextFields.{start}
+use Rattle.sv_model.specs.TableText.{covers}
 use Rattle.sv_model.specs.declared.records.Version.{Version}
 use Rattle.sv_model.proofs.FlatFirsts.{marks}
-use Rattle.sv_model.proofs.FlatKeys.{gone}
 use Rattle.sv_model.proofs.Lists.{total_at}
 use Rattle.sv_rule.specs.Fits.{BodyFits, Fits, ReadFits}
 use Rattle.sv_rule.specs.Held.{FilesHeld}
 use Rattle.sv_rule.specs.InHand.{IsThere, WorkHeld}
 use Rattle.sv_rule.specs.LockPlays.{ChangesOwn, DirChange, HasRef, IsOwnRead, MarksTask}
-use Rattle.sv_rule.specs.Sums.{at}
 use Rattle.sv_rule.specs.Supers.{LiveAt}
-use Rattle.sv_rule.specs.Table.{names, number}
+use Rattle.sv_rule.specs.Table.{number}
 use Rattle.sv_rule.specs.Tasks.{grabs, has_output, marks_of, output_count}
 use Rattle.sv_rule.specs.Views.{Disk, FileRead, LaneView, Mark, Output, Start, Task, Work}
 use Rattle.sv_rule.proofs.Basics.{each_other, get_none, some_is}

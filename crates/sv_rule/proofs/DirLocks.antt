@@ -12,22 +12,18 @@ use Rattle.sv_model.specs.Cells.{Cell}
 use Rattle.sv_model.specs.Files.{Files}
 use Rattle.sv_model.specs.Lawful.{Lawful}
 use Rattle.sv_model.specs.Lists.{times, total}
-use Rattle.sv_model.specs.Registers.{change}
 use Rattle.sv_model.specs.TableTextFields.{start}
 use Rattle.sv_model.proofs.AfterLaws.{after-itself}
-use Rattle.sv_model.proofs.FlatKeys.{gone}
-use Rattle.sv_model.proofs.SearchLaws.{found}
 use Rattle.sv_rule.specs.Fits.{ReadFits}
-use Rattle.sv_rule.specs.Held.{FilesHeld, Held, Says, Told}
+use Rattle.sv_rule.specs.Held.{FilesHeld, Says, Told}
 use Rattle.sv_rule.specs.Home.{IsDir, Lock}
 use Rattle.sv_rule.specs.InHand.{Accounts, WorkHeld}
 use Rattle.sv_rule.specs.LockPlays.{DirChange, GaveDir, MarksTask, MayGiveDir, TookDir, gave_dir, took_dir}
 use Rattle.sv_rule.specs.Rule.{Kept}
-use Rattle.sv_rule.specs.Sums.{Each, at}
-use Rattle.sv_rule.specs.Table.{Box, cell_word, holds, home, names, number, number_word, slot_home, word}
+use Rattle.sv_rule.specs.Sums.{Each}
+use Rattle.sv_rule.specs.Table.{Box, cell_word, home, names, number, number_word, slot_home, word}
 use Rattle.sv_rule.specs.Tasks.{due_count, due_of, faults, fill_count, fills, has_dir, some_count}
 use Rattle.sv_rule.specs.Turns.{OwnTurns}
-use Rattle.sv_rule.specs.UnderWay.{begins}
 use Rattle.sv_rule.specs.Views.{Body, Desk, Disk, FileRead, LaneView, Seat, Start, Task, Work}
 use Rattle.sv_rule.specs.declared.parts.Stored.{Stored}
 use Rattle.sv_rule.specs.declared.parts.Stored.TheVariants as is
@@ -36,7 +32,6 @@ use Rattle.sv_rule.proofs.CurrentTurns.{currents-stand, silent-stays}
 use Rattle.sv_rule.proofs.DbLock.{db-same, owners-same}
 use Rattle.sv_rule.proofs.DirFiles.{files-dir, read-fits}
 use Rattle.sv_rule.proofs.FileTurns.{files-turn, told-map}
-use Rattle.sv_rule.proofs.Frames.{frames}
 use Rattle.sv_rule.proofs.InHandTurns.{work-turns}
 use Rattle.sv_rule.proofs.LockGoes.{kept-by-other-lock}
 use Rattle.sv_rule.proofs.LockLaws.{alone, lock-gave, lock-took}
@@ -45,9 +40,7 @@ use Rattle.sv_rule.proofs.References.{R}
 use Rattle.sv_rule.proofs.Resting.{held-by, says-step}
 use Rattle.sv_rule.proofs.Stepping.{next, rounds_view, view_same, word_else, word_here}
 use Rattle.sv_rule.proofs.Sums.{total-set}
-use Rattle.sv_rule.proofs.Told.{told}
 use Rattle.sv_rule.proofs.TurnsSame.{stands-same, turns-same}
---+ none
 
 disk_is : {x y : Disk} → Some x ≡ Some y → x ≡ y
 disk_is e = some_is e
@@ -133,7 +126,6 @@ module _ {S D C B : Type 0} (books : S → Books) (disk : D → Disk) (cell : C 
     where
       fill : (k : ℕ) → due_of w ≡ due_of v → fills k w ≡ fills k v
       fill k due = λ q. fill_count k (due q) (same_cell q)
-
       -- the cells and bodies speak of no disk
 
   pub takes_dir : (n id : ℕ) (m : Me (Stored S D C B) LaneView) → m.0.seat.spent ≡ false → Allows (Kept books disk cell body) n id m 1 (λ y. either (eqb y 0) 1 y) (TookDir disk m)

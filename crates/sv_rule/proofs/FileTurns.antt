@@ -11,11 +11,9 @@ use Rattle.sv_model.specs.Lawful.{Lawful}
 use Rattle.sv_model.specs.Lists.{Every, In}
 use Rattle.sv_model.specs.Numbers.{having, is_live, is_pending, registered}
 use Rattle.sv_model.specs.Summaries.{is_gone}
-use Rattle.sv_model.specs.TableText.{covers, written}
-use Rattle.sv_model.specs.TableTextFields.{start}
+use Rattle.sv_model.specs.TableText.{covers}
 use Rattle.sv_model.specs.declared.records.RegisteredFile.{RegisteredFile}
 use Rattle.sv_model.specs.declared.writes.Write.{Write}
-use Rattle.sv_model.proofs.FlatKeys.{gone}
 use Rattle.sv_rule.specs.Held.{FilesHeld, Told}
 use Rattle.sv_rule.specs.InHand.{IsThere, WorkHeld}
 use Rattle.sv_rule.specs.Sums.{at}

@@ -1,7 +1,6 @@
 -- What the books of an opening have.
 use Rattle.std.proofs.Common.{List, None, Some, [], ap, arith, cond, length, ne_eqb, refl, slice_get, subst, suc, sym, zero, ℕ, ◌<◌, ◌∙◌, ◌∷◌, ◌≡◌, ◌≢◌, ◌≤◌}
 use mathlib.Core.Logic.{dite}
-use mathlib.Core.Option.{some}
 use native.Mathlib.Decide.{ℕ_discrete}
 use Rattle.sv_model.specs.Books.{Books}
 use Rattle.sv_model.specs.Journal.{borne_by, by_lane}
@@ -12,14 +11,12 @@ use Rattle.sv_model.specs.declared.records.Memtable.{Memtable}
 use Rattle.sv_model.specs.declared.records.SuperVersion.{SuperVersion}
 use Rattle.sv_model.specs.declared.writes.Write.{Write}
 use Rattle.sv_rule.specs.Numbers.{IsBased}
-use Rattle.sv_rule.specs.Sums.{at, below}
+use Rattle.sv_rule.specs.Sums.{below}
 use Rattle.sv_rule.specs.Supers.{LiveAt, current_of, current_serial, pack, pack_at, pack_of_serial}
-use Rattle.sv_rule.specs.Views.{away}
 use Rattle.sv_rule.proofs.Basics.{some_is}
 use Rattle.sv_rule.proofs.CurrentLaws.{get_lt, some-at}
 use Rattle.sv_rule.proofs.SeatSplits.{none_by}
 use Rattle.sv_rule.proofs.Sums.{below_le}
---+ away some
 
 -- ---- sums
 

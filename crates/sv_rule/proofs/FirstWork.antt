@@ -1,30 +1,25 @@
 -- Work in hand, and files, at the opening.
 use Rattle.std.proofs.Common.{Bool, List, None, Option, Some, [], ap, arith, false, inl, not, refl, suc, sym, true, zero, ℕ, ◌&&◌, ◌<◌, ◌==◌, ◌∙◌, ◌∷◌, ◌≡◌}
 use mathlib.Core.Logic.{dite}
-use mathlib.Core.Option.{some}
 use native.Mathlib.Decide.{ℕ_discrete}
-use Rattle.atomic_table.specs.Table.{opening}
 use Rattle.sv_model.specs.Books.{Books}
 use Rattle.sv_model.specs.Files.{Files, file_of}
 use Rattle.sv_model.specs.HeldFiles.{FilesHold, HasItsText}
 use Rattle.sv_model.specs.Lists.{Every, In, bit, times, total}
 use Rattle.sv_model.specs.Numbers.{having, is_grabbed, is_pending}
-use Rattle.sv_model.specs.TableText.{written}
 use Rattle.sv_model.specs.declared.records.FileStatus.{FileStatus}
 use Rattle.sv_model.specs.declared.records.FileStatus.TheVariants.{Live}
 use Rattle.sv_model.specs.declared.records.Top.{Top}
 use Rattle.sv_model.proofs.AfterLaws.{after-itself}
-use Rattle.sv_model.proofs.FlatKeys.{gone}
 use Rattle.sv_rule.specs.Begins.{FirstBooks}
 use Rattle.sv_rule.specs.Blanks.{first_view}
 use Rattle.sv_rule.specs.Held.{FilesHeld, Told}
 use Rattle.sv_rule.specs.InHand.{Accounts, IsQuiet, WorkHeld}
 use Rattle.sv_rule.specs.Sums.{at}
-use Rattle.sv_rule.specs.Supers.{writes}
-use Rattle.sv_rule.specs.Table.{holds, number}
-use Rattle.sv_rule.specs.Tasks.{faults, marks_of}
+use Rattle.sv_rule.specs.Table.{number}
+use Rattle.sv_rule.specs.Tasks.{marks_of}
 use Rattle.sv_rule.specs.UnderWay.{excepts}
-use Rattle.sv_rule.specs.Views.{Disk, LaneView, Mark, Output, Start, away, idle}
+use Rattle.sv_rule.specs.Views.{Disk, LaneView, Mark, Output, Start, idle}
 use Rattle.sv_rule.proofs.Basics.{each_one, every_none, some_is, true_not}
 use Rattle.sv_rule.proofs.CurrentLaws.{get_lt}
 use Rattle.sv_rule.proofs.FirstBooks.{no_writes}
@@ -32,9 +27,6 @@ use Rattle.sv_rule.proofs.SeatSplits.{accounts-none}
 use Rattle.sv_rule.proofs.SeatWork.{zero-cond}
 use Rattle.sv_rule.proofs.Statuses.{having-has}
 use Rattle.sv_rule.proofs.Sums.{same-else}
---+ away some
---! starts
---+ away some
 
 at-zeros : (l : List ℕ) → Every (λ h. h ≡ 0) l → (k : ℕ) → at 0 l k ≡ 0
 at-zeros [] h k = refl

@@ -2,9 +2,7 @@
 use Rattle.std.proofs.Common.{List, Some, [], ap, arith, drop, inl, inr, length, refl, slice_get, subst, suc, sym, take, ℕ, ⊎_elim, ◌+◌, ◌==◌, ◌∙◌, ◌∷◌, ◌≡◌, ◌≤◌}
 use Rattle.std.proofs.lemmas.List.{length-map}
 use mathlib.Core.Logic.{dite}
-use mathlib.Core.Option.{some}
 use native.Mathlib.Decide.{dec_le}
-use Rattle.atomic_table.specs.Table.{rest}
 use Rattle.sv_model.specs.After.{After, Continues, KeepsFamily, KeepsNumber, KeepsSuper}
 use Rattle.sv_model.specs.Books.{Books}
 use Rattle.sv_model.specs.Described.{Describes, FilesStand, IsFileOf, MembersJoin}
@@ -15,8 +13,6 @@ use Rattle.sv_model.specs.Lawful.{Lawful}
 use Rattle.sv_model.specs.Lists.{In, same}
 use Rattle.sv_model.specs.Numbers.{IsRegistered}
 use Rattle.sv_model.specs.Registers.{GoesOn}
-use Rattle.sv_model.specs.TableText.{covers}
-use Rattle.sv_model.specs.TableTextFields.{start}
 use Rattle.sv_model.specs.declared.records.Descriptor.{Descriptor}
 use Rattle.sv_model.specs.declared.records.FileMeta.{FileMeta}
 use Rattle.sv_model.specs.declared.records.FileStatus.TheVariants.{Gone}
@@ -24,14 +20,8 @@ use Rattle.sv_model.specs.declared.records.RegisteredFile.{RegisteredFile}
 use Rattle.sv_model.specs.declared.records.SuperVersion.{SuperVersion}
 use Rattle.sv_model.specs.declared.writes.Write.{Write}
 use Rattle.sv_model.proofs.AfterLaws.{after-through, continues-through}
-use Rattle.sv_model.proofs.FlatReads.{within}
-use Rattle.sv_model.proofs.KeyOrder.{above}
-use Rattle.sv_model.proofs.SearchLaws.{found}
 use Rattle.sv_rule.specs.Fits.{BodyFits, Fits, IsClosed, IsFrozenAt, IsGoneSnapshot, ReadFits, RowsFit, Together}
-use Rattle.sv_rule.specs.Sums.{at}
 use Rattle.sv_rule.specs.Supers.{IsSerialOf}
-use Rattle.sv_rule.specs.Table.{number}
-use Rattle.sv_rule.specs.UnderWay.{middle}
 use Rattle.sv_rule.specs.Views.{Bodied, FileRead, FrozenAt, Known, Load, RowsRead}
 use Rattle.sv_rule.proofs.Basics.{every_map, some_is}
 use Rattle.sv_rule.proofs.CurrentLaws.{pack_le, serial_le}

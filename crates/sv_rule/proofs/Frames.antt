@@ -6,8 +6,6 @@ use Rattle.atomic_table.specs.Table.{Allows, Me, keeps}
 use Rattle.sv_model.specs.Books.{Books}
 use Rattle.sv_model.specs.Cells.{Cell}
 use Rattle.sv_model.specs.Lists.{Every}
-use Rattle.sv_model.specs.TableTextFields.{start}
-use Rattle.sv_model.proofs.SearchLaws.{found}
 use Rattle.sv_rule.specs.Fits.{Together}
 use Rattle.sv_rule.specs.InHand.{Accounts}
 use Rattle.sv_rule.specs.RoundPlays.{Framed, framed}

@@ -1,7 +1,6 @@
 -- What lanes borrowed, cached and looked at, as the books change or a number word does.
 use Rattle.std.proofs.Common.{List, ap, arith, subst, sym, ℕ, ◌/◌, ◌<◌, ◌∙◌, ◌∷◌, ◌≡◌, ◌≢◌, ◌≤◌}
 use mathlib.Core.Logic.{dite}
-use mathlib.Core.Option.{none}
 use native.Mathlib.Decide.{dec_le}
 use Rattle.sv_model.specs.After.{After}
 use Rattle.sv_model.specs.Books.{Books}
@@ -9,14 +8,11 @@ use Rattle.sv_model.specs.Lists.{same, total}
 use Rattle.sv_model.specs.Places.{taken}
 use Rattle.sv_model.specs.Registers.{entry}
 use Rattle.sv_rule.specs.Fresh.{FreshOf, Past, floor_of}
-use Rattle.sv_rule.specs.Sums.{below}
 use Rattle.sv_rule.specs.Supers.{IsPackOf, current_of, end_at, end_in}
 use Rattle.sv_rule.specs.Sweep.{pack_of}
-use Rattle.sv_rule.specs.Table.{slot}
 use Rattle.sv_rule.specs.UnderWay.{Stock}
-use Rattle.sv_rule.specs.Views.{SlotView, Work, away, begun, borrow, held, idle, opens, sweeping}
+use Rattle.sv_rule.specs.Views.{SlotView, Work, begun, idle, opens, sweeping}
 use Rattle.sv_rule.proofs.LaterBooks.{end-after, pack-after, writes-after}
---+ away held borrow
 
 floor_low : (b b' : Books) (x : SlotView) → pack_of x < 256 → floor_of x ≤ end_at b (pack_of x) → floor_of x ≤ end_at b' (pack_of x)
 floor_low b b' x small h = let z : pack_of x / 256 ≡ 0 = omega arith in omega (arith, ap (λ (y : ℕ). end_in b.journal (entry b.supers y)) z)

@@ -6,7 +6,6 @@ use mathlib.Core.Option.{some}
 use mathlib.Core.Option as maybe
 use native.Mathlib.Decide.{ℕ_discrete}
 use lib.ListN.{get_elem?}
-use Rattle.atomic_table.specs.Table.{opening}
 use Rattle.sv_model.specs.Books.{Books}
 use Rattle.sv_model.specs.Journal.{by_lane}
 use Rattle.sv_model.specs.Lawful.{Lawful}
@@ -14,7 +13,6 @@ use Rattle.sv_model.specs.Lists.{Every, In, same, times, total}
 use Rattle.sv_model.specs.Numbers.{IsRegistered, having, is_grabbed, is_live, is_pending, registered}
 use Rattle.sv_model.specs.Registers.{entry}
 use Rattle.sv_model.specs.Summaries.{is_gone}
-use Rattle.sv_model.specs.TableTextFields.{start}
 use Rattle.sv_model.specs.declared.records.FileStatus.TheVariants.{Gone}
 use Rattle.sv_model.specs.declared.records.Snapshot.{Snapshot}
 use Rattle.sv_model.specs.declared.writes.Write.{Write}
@@ -23,8 +21,6 @@ use Rattle.sv_model.proofs.Lists.{same_is, times_in, total_at}
 use Rattle.sv_rule.specs.Fits.{IsGoneSnapshot}
 use Rattle.sv_rule.specs.InHand.{Accounts, CurrentsStand, IsQuiet, IsThere, WorkHeld}
 use Rattle.sv_rule.specs.Sums.{Each, at}
-use Rattle.sv_rule.specs.Supers.{writes}
-use Rattle.sv_rule.specs.Table.{holds, number}
 use Rattle.sv_rule.specs.Tasks.{endings, faults, gone_count, gone_snapshot, grabs, handle, handles_of, has_db, has_job, has_output, holds_of, job_count, lanes, marks_of, output_count, own_lane, removals}
 use Rattle.sv_rule.specs.Turns.{IsFresh, IsOutput, OwnTurns}
 use Rattle.sv_rule.specs.UnderWay.{excepts}

@@ -21,7 +21,6 @@ use Rattle.sv_rule.proofs.CurrentLaws.{current_is, current_marks, current_newest
 use Rattle.sv_rule.proofs.FirstBooks.{by_less}
 use Rattle.sv_rule.proofs.Sums.{same-self}
 use Rattle.sv_rule.proofs.Sweeps.{sweeps}
---+ begun
 
 -- The number word that an install finds is the current that the family had before.
 pub old_number : (a b : Books) (f p r : ℕ) → Lawful a → Lawful b → Opens a b f p → NumberOk b (begun f) f r → r ≡ current_of a f

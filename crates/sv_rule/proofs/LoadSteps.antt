@@ -18,7 +18,7 @@ use Rattle.sv_rule.specs.Sums.{at}
 use Rattle.sv_rule.specs.Sweep.{Right}
 use Rattle.sv_rule.specs.Table.{holders, holds, number, number_word, owers, owes, reference, reference_word, slot, slot_of, slot_word, spot, word}
 use Rattle.sv_rule.specs.UnderWay.{Stock, fit, middle}
-use Rattle.sv_rule.specs.Views.{Body, Desk, Disk, Joined, LaneView, Locks}
+use Rattle.sv_rule.specs.Views.{Body, Desk, Disk, Joined, LaneView}
 use Rattle.sv_rule.specs.declared.parts.Stored.{Stored}
 use Rattle.sv_rule.proofs.Assembly.{kept-by-word, low_id}
 use Rattle.sv_rule.proofs.Basics.{each_set}
@@ -66,4 +66,3 @@ module _ {S D C B : Type 0} (books : S → Books) (disk : D → Disk) (cell : C 
       (λ f l. fresh_same kept.b (number s) (number L) numbers f _ _ _ _ l (fresh f l))
       (λ j u e f l. fresh_same kept.b (number s) (number L) numbers f _ _ _ _ l (kept.fresh j u e f l)))
       (circles (word L 82) (number L) (stays 82) numbers)
-

@@ -7,30 +7,26 @@ use lib.ListN.{get_elem?}
 use Rattle.atomic_table.specs.Table.{Allows, Me, State, keeps}
 use Rattle.sv_model.specs.Books.{Books}
 use Rattle.sv_model.specs.Cells.{Cell}
-use Rattle.sv_model.specs.Flat.{plain}
 use Rattle.sv_model.specs.Lists.{Every, total}
 use Rattle.sv_rule.specs.Fresh.{FreshOf, Past, floor_of}
 use Rattle.sv_rule.specs.Rounds.{Loaded, Rounds}
 use Rattle.sv_rule.specs.Rule.{Kept}
 use Rattle.sv_rule.specs.SlotPlays.{IsCurrentAt, Looked, checked, lends, looked, looked_by}
-use Rattle.sv_rule.specs.Sums.{at, below, without}
-use Rattle.sv_rule.specs.Supers.{current_of, end_at, pack}
+use Rattle.sv_rule.specs.Sums.{at, without}
+use Rattle.sv_rule.specs.Supers.{current_of, end_at}
 use Rattle.sv_rule.specs.Sweep.{lent, pack_of}
-use Rattle.sv_rule.specs.Table.{names, number, number_word, slot, slot_of, word}
+use Rattle.sv_rule.specs.Table.{names, number, number_word, slot_of, word}
 use Rattle.sv_rule.specs.UnderWay.{Stock, excepts, fit}
-use Rattle.sv_rule.specs.Views.{Body, Disk, Joined, LaneView, Load, SlotView, Work, away, borrow, held, idle}
+use Rattle.sv_rule.specs.Views.{Body, Disk, Joined, LaneView, Load, SlotView, Work, away, borrow, idle}
 use Rattle.sv_rule.specs.declared.parts.Stored.{Stored}
-use Rattle.sv_rule.specs.declared.parts.Stored.TheVariants as is
 use Rattle.sv_rule.proofs.Basics.{by_desk, every_cons}
 use Rattle.sv_rule.proofs.Checks.{by_bool, floor-checked, lends_is, lent-checked, names-checked, pack-checked, right_view}
 use Rattle.sv_rule.proofs.LoadSteps.{L, kept-by-load}
 use Rattle.sv_rule.proofs.References.{adds}
 use Rattle.sv_rule.proofs.RoundTurns.{loaded-now, loaded-work, rounds-set}
 use Rattle.sv_rule.proofs.Shows.{handle-shows, shown-rises}
-use Rattle.sv_rule.proofs.SlotPuts.{rests}
 use Rattle.sv_rule.proofs.Stepping.{right_same}
 use Rattle.sv_rule.proofs.Sums.{at-put_else, at-put_same, length-put, length-without, same-else, total-put, total-without}
---+ away held borrow
 
 module _ {S D C B : Type 0} (books : S → Books) (disk : D → Disk) (cell : C → Option Cell) (body : B → Body) where
   -- the number word is a pack that is not past itself
@@ -122,4 +118,3 @@ module _ {S D C B : Type 0} (books : S → Books) (disk : D → Disk) (cell : C 
           }))
           (λ ne. subst (λ (z : SlotView × ℕ). FreshOf kept.b (number s g) g z.0 (at 0 v.slots.cached g) z.1 (at 0 v.known.seen g)) (λ k. (sym (at-put_else away v.slots.slot f g x ne) k, sym (at-put_else 0 v.slots.looked f g r ne) k)) old))
           (loaded_one s kept me w refl refl refl refl)
-

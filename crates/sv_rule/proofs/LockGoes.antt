@@ -9,7 +9,6 @@ use Rattle.sv_model.specs.Books.{Books}
 use Rattle.sv_model.specs.Cells.{Cell}
 use Rattle.sv_model.specs.Lawful.{Lawful}
 use Rattle.sv_model.specs.Lists.{same, total}
-use Rattle.sv_model.specs.TableTextFields.{start}
 use Rattle.sv_model.specs.declared.records.SuperVersion.{SuperVersion}
 use Rattle.sv_rule.specs.Fresh.{FreshIn, FreshOf}
 use Rattle.sv_rule.specs.Held.{Held}
@@ -17,7 +16,6 @@ use Rattle.sv_rule.specs.Home.{IsDir, IsState, Lock, SlotOk}
 use Rattle.sv_rule.specs.InHand.{WorkHeld}
 use Rattle.sv_rule.specs.Ledger.{Places}
 use Rattle.sv_rule.specs.Rule.{Kept}
-use Rattle.sv_rule.specs.SlotPlays.{looked}
 use Rattle.sv_rule.specs.Sums.{Each, at}
 use Rattle.sv_rule.specs.Supers.{IsSerialOf, current_of, writes}
 use Rattle.sv_rule.specs.Table.{Box, holders, holds, home, names, number, number_word, owers, owes, reference, reference_word, slot, slot_home, slot_of, slot_word, word}
@@ -31,11 +29,9 @@ use Rattle.sv_rule.proofs.Basics.{each_other, each_set, has_one, true_not}
 use Rattle.sv_rule.proofs.FreshTurns.{fresh-stands, stock-turn}
 use Rattle.sv_rule.proofs.NumberTurns.{current-stands, numbers-stands}
 use Rattle.sv_rule.proofs.Places.{places_same}
-use Rattle.sv_rule.proofs.RoundAdds.{rounds}
 use Rattle.sv_rule.proofs.RoundTurns.{has-current-same, loaded-turn, rounds-on}
 use Rattle.sv_rule.proofs.Stepping.{apart_same, hands_step, holders_by_view, next, numbers_same, rights_stay, rounds_view, seat_view, seats_step, views_move, word_else}
 use Rattle.sv_rule.proofs.Sums.{term_le, total-set}
---+ away
 
 module _ {S D C B : Type 0} (books : S → Books) (disk : D → Disk) (cell : C → Option Cell) (body : B → Body) (s : State (Stored S D C B) LaneView) (kept : Kept books disk cell body s) (id : ℕ) (v w : LaneView) (me : get_elem? s.views id ≡ some v) (i x : ℕ) (homes : List (maybe.Option (Stored S D C B))) where
   abbrev pub G : State (Stored S D C B) LaneView

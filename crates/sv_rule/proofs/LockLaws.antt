@@ -3,17 +3,15 @@ use Rattle.std.proofs.Common.{List, Some, arith, refl, set, sym, ℕ, ◌∙◌,
 use mathlib.Core.Option.{none, some}
 use lib.ListN.{get_elem?}
 use Rattle.sv_model.specs.Books.{Books}
-use Rattle.sv_model.specs.Lists.{bit}
 use Rattle.sv_rule.specs.Home.{IsState, Lock}
 use Rattle.sv_rule.specs.Sums.{Each}
-use Rattle.sv_rule.specs.Table.{Box, home}
+use Rattle.sv_rule.specs.Table.{Box}
 use Rattle.sv_rule.specs.Tasks.{has_db}
 use Rattle.sv_rule.specs.Views.{Desk, LaneView, Work}
 use Rattle.sv_rule.specs.declared.parts.Stored.{Stored}
 use Rattle.sv_rule.proofs.Basics.{at_desk, each_other, each_set, has_one}
 use Rattle.sv_rule.proofs.Stepping.{view_le, view_same}
 use Rattle.sv_rule.proofs.Sums.{terms_le, total-set}
---+ none
 
 module _ {A : Type 0} where
   -- a lock that the step does not touch

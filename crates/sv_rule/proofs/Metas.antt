@@ -12,7 +12,6 @@ use Rattle.sv_model.specs.declared.records.RegisteredFile.{RegisteredFile}
 use Rattle.sv_model.proofs.Freed.{distinct_times}
 use Rattle.sv_model.proofs.Lists.{at_total, same_is, times_in}
 use Rattle.sv_rule.proofs.Basics.{some_is}
-use Rattle.sv_rule.proofs.Stepping.{next}
 
 pub captured-goes : (N K : List RegisteredFile) → GoesOn KeepsNumber N K → (f n : ℕ) → Has (IsCapturedFor f n) N
     → Has (IsCapturedFor f n) K

@@ -13,13 +13,13 @@ use Rattle.sv_rule.specs.Numbers.{NumberOk, Numbers}
 use Rattle.sv_rule.specs.RoundPlays.{MaySwap, Numbered, numbered}
 use Rattle.sv_rule.specs.Rounds.{Rounds}
 use Rattle.sv_rule.specs.Rule.{Kept}
-use Rattle.sv_rule.specs.SlotPlays.{looked, reached}
+use Rattle.sv_rule.specs.SlotPlays.{reached}
 use Rattle.sv_rule.specs.Sums.{Each, at, without}
 use Rattle.sv_rule.specs.Supers.{current_of}
 use Rattle.sv_rule.specs.Sweep.{Right}
 use Rattle.sv_rule.specs.Table.{cached_at, holders, holds, number, number_word, owers, owes, reference, reference_word, slot, slot_of, slot_word, spot, word}
-use Rattle.sv_rule.specs.UnderWay.{Stock, begins, fit, middle}
-use Rattle.sv_rule.specs.Views.{Bodied, Body, Desk, Disk, LaneView, Locks, Work, away, begun, borrow, held, sweeping}
+use Rattle.sv_rule.specs.UnderWay.{Stock, fit, middle}
+use Rattle.sv_rule.specs.Views.{Bodied, Body, Desk, Disk, LaneView, Locks, Work, begun, sweeping}
 use Rattle.sv_rule.specs.declared.parts.Stored.{Stored}
 use Rattle.sv_rule.proofs.Assembly.{N, kept-by-word, low_id, stays}
 use Rattle.sv_rule.proofs.Basics.{at_desk, each_set, no_desk_in}
@@ -33,7 +33,6 @@ use Rattle.sv_rule.proofs.Resting.{accounts-bodies, hand_view, rest-stays}
 use Rattle.sv_rule.proofs.RoundTurns.{rounds-moved}
 use Rattle.sv_rule.proofs.Stepping.{right_same, slots_stay, spots_keep, views_move, word_here}
 use Rattle.sv_rule.proofs.Sums.{at-put_else, at-put_same, below-put, length-without, same-else, same-self, total-without, total-without_else}
---+ away held borrow
 
 -- what holds of nobody and of each view holds of what lane l knows
 pub each_at : (P : LaneView → Type 0) (vs : List LaneView) → P nobody → Each (λ j v. P v) vs → (l : ℕ) → P (at nobody vs l)

@@ -2,7 +2,6 @@
 -- ---- SuperVersions and currents stand
 use Rattle.std.proofs.Common.{Bool, List, None, Option, Some, [], ap, arith, inl, inr, length, length-append, refl, slice_get, subst, sym, ℕ, ⊎_elim, ◌/◌, ◌<◌, ◌∙◌, ◌∷◌, ◌≡◌, ◌≢◌, ◌≤◌, ◌⊎◌}
 use mathlib.Core.Logic.{dite}
-use mathlib.Core.Option.{none}
 use native.Mathlib.Decide.{dec_le, ℕ_discrete}
 use Rattle.sv_model.specs.After.{After}
 use Rattle.sv_model.specs.Books.{Books}
@@ -12,13 +11,12 @@ use Rattle.sv_model.specs.Places.{taken}
 use Rattle.sv_model.specs.Registers.{EachEntry, entry}
 use Rattle.sv_model.specs.declared.records.SuperVersion.{SuperVersion}
 use Rattle.sv_model.specs.declared.records.Top.{Top}
-use Rattle.sv_model.proofs.FlatFirsts.{marks}
 use Rattle.sv_model.proofs.Registers.{entry-new, entry_push}
 use Rattle.sv_rule.specs.Fresh.{Past}
 use Rattle.sv_rule.specs.Numbers.{IsBased, NumberOk, Numbers}
-use Rattle.sv_rule.specs.Sums.{at, below}
+use Rattle.sv_rule.specs.Sums.{at}
 use Rattle.sv_rule.specs.Supers.{IsPackOf, IsSerialOf, LiveAt, current_in, current_of, current_serial, end_at, pack, pack_at, pack_of_serial, writes}
-use Rattle.sv_rule.specs.Table.{number, word}
+use Rattle.sv_rule.specs.Table.{number}
 use Rattle.sv_rule.specs.Turns.{EndsCurrent, EndsSuper, Opens, Stands}
 use Rattle.sv_rule.specs.UnderWay.{excepts}
 use Rattle.sv_rule.specs.Views.{Work, begun, idle, opens, sweeping}

@@ -16,10 +16,8 @@ use Rattle.sv_model.specs.TableTextFields.{start}
 use Rattle.sv_model.specs.declared.records.Memtable.{Memtable}
 use Rattle.sv_model.specs.declared.records.Top.{Top}
 use Rattle.sv_model.proofs.Basics.{none_some}
-use Rattle.sv_model.proofs.FlatKeys.{gone}
 use Rattle.sv_model.proofs.Lists.{same_is}
 use Rattle.sv_model.proofs.Registers.{entry-new, entry-old, entry_le}
-use Rattle.sv_model.proofs.SearchLaws.{found}
 use Rattle.sv_rule.specs.Fits.{BodyFits}
 use Rattle.sv_rule.specs.Fresh.{FreshOf}
 use Rattle.sv_rule.specs.InHand.{WorkHeld}
@@ -44,7 +42,6 @@ use Rattle.sv_rule.proofs.FreshTurns.{fresh-turn}
 use Rattle.sv_rule.proofs.NumberTurns.{numbers-opens, old-not-new, opens-others}
 use Rattle.sv_rule.proofs.Places.{IsOpened, places_open}
 use Rattle.sv_rule.proofs.RoundTurns.{bound-opens, loaded-opens, rounds-on}
-use Rattle.sv_rule.proofs.SlotPuts.{rests}
 use Rattle.sv_rule.proofs.Stepping.{fresh_stay, holders_by_view, numbers_same, rights_stay, view_le, views_move, word_here}
 use Rattle.sv_rule.proofs.Sums.{cond-is, same-else, same-self}
 use Rattle.sv_rule.proofs.TurnRest.{journal-stands, mine-turns, rest-turns, says-opens, says-same}

@@ -5,7 +5,7 @@ use mathlib.Core.Option.{some}
 use mathlib.Core.Option as maybe
 use native.Mathlib.Decide.{dec_le, ℕ_discrete}
 use lib.ListN.{get_elem?}
-use Rattle.atomic_table.specs.Table.{State, rest}
+use Rattle.atomic_table.specs.Table.{State}
 use Rattle.sv_model.specs.Books.{Books}
 use Rattle.sv_model.specs.Cells.{Cell}
 use Rattle.sv_model.specs.Lists.{same, total}
@@ -19,21 +19,19 @@ use Rattle.sv_rule.specs.Ledger.{most_hand}
 use Rattle.sv_rule.specs.Rule.{Kept}
 use Rattle.sv_rule.specs.SlotPlays.{reached}
 use Rattle.sv_rule.specs.Sums.{at, put}
-use Rattle.sv_rule.specs.Supers.{pack}
 use Rattle.sv_rule.specs.Sweep.{Right, lent}
 use Rattle.sv_rule.specs.Table.{names, number, slot, slot_home, slot_of, slot_word, spot}
 use Rattle.sv_rule.specs.UnderWay.{Stock, fit, middle}
-use Rattle.sv_rule.specs.Views.{Body, Desk, Disk, Joined, LaneView, Locks, SlotView, Work, away, borrow, held, idle}
+use Rattle.sv_rule.specs.Views.{Body, Desk, Disk, Joined, LaneView, SlotView, Work, away, borrow, idle}
 use Rattle.sv_rule.specs.declared.parts.Stored.{Stored}
 use Rattle.sv_rule.specs.declared.parts.Stored.TheVariants as is
-use Rattle.sv_rule.proofs.Assembly.{M, N, kept-by-slot, low_id, m_else, m_here, m_numbers}
+use Rattle.sv_rule.proofs.Assembly.{M, kept-by-slot, low_id, m_else, m_here, m_numbers}
 use Rattle.sv_rule.proofs.Basics.{each_set}
 use Rattle.sv_rule.proofs.DbLock.{db-same, owners-same}
 use Rattle.sv_rule.proofs.FreshTurns.{stock-more}
 use Rattle.sv_rule.proofs.Resting.{hand_view, rest-stays, silent-stands}
 use Rattle.sv_rule.proofs.Stepping.{right_same, rounds_view, seat_view, spots_set}
 use Rattle.sv_rule.proofs.Sums.{at-is, at-put_else, at-put_same, length-put, marked, total-put}
---+ away held borrow
 
 not_away : {x : SlotView} {p n : ℕ} → x ≡ away → x ≡ borrow p n → ⊥
 not_away e d = cc
@@ -101,4 +99,3 @@ out_of {a} {m} {w} {n} {c} {x} r one = dite (ℕ_discrete w 0) (λ e. absurd (om
 -- what fits in a rest
 pub fit_idle : (W : Work) → W ≡ idle → (f l n : ℕ) → fit W f l n ≡ n
 fit_idle W e f l n = ap (λ (z : Work). fit z f l n) e
-

@@ -7,7 +7,6 @@ use Rattle.atomic_table.proofs.Lists.{set_else, set_here}
 use Rattle.atomic_table.specs.Table.{Allows, Me, gives}
 use Rattle.sv_model.specs.Books.{Books}
 use Rattle.sv_model.specs.Cells.{Cell}
-use Rattle.sv_model.proofs.FlatFirsts.{marks}
 use Rattle.sv_rule.specs.Rule.{Kept}
 use Rattle.sv_rule.specs.Sweep.{Right}
 use Rattle.sv_rule.specs.SweepPlays.{Passed, beyond}

@@ -21,11 +21,10 @@ use Rattle.sv_rule.specs.LockPlays.{HasRef}
 use Rattle.sv_rule.specs.Sums.{at}
 use Rattle.sv_rule.specs.Supers.{LiveAt, pack}
 use Rattle.sv_rule.specs.Table.{holders, holds, names, owers, reference, slot_of}
-use Rattle.sv_rule.specs.Views.{Bodied, LaneView, SlotView, away, borrow, held}
+use Rattle.sv_rule.specs.Views.{Bodied, LaneView, SlotView, away, borrow}
 use Rattle.sv_rule.proofs.Basics.{some_is}
 use Rattle.sv_rule.proofs.Places.{held_place}
 use Rattle.sv_rule.proofs.Sums.{at_le, same-self, term_le}
---+ away held borrow
 
 -- what a SuperVersion names, directly or through its list or Version, is Live
 pub record NamesLive (b : Books) (d : Descriptor) : Type 0 where

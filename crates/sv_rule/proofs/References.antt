@@ -8,7 +8,6 @@ use Rattle.atomic_table.specs.Table.{Allows, Me, State, keeps}
 use Rattle.sv_model.specs.Books.{Books}
 use Rattle.sv_model.specs.Cells.{Cell}
 use Rattle.sv_model.specs.Lists.{In, same, total}
-use Rattle.sv_model.specs.TableTextFields.{after}
 use Rattle.sv_rule.specs.Blanks.{no_locks}
 use Rattle.sv_rule.specs.Fits.{BodyFits}
 use Rattle.sv_rule.specs.Home.{IsState, Lock}
@@ -22,7 +21,7 @@ use Rattle.sv_rule.specs.Supers.{current_of, pack}
 use Rattle.sv_rule.specs.Sweep.{Rights}
 use Rattle.sv_rule.specs.Table.{holders, holds, home, number, number_word, owers, owes, reference, reference_word, slot, slot_word, word}
 use Rattle.sv_rule.specs.Tasks.{has_db}
-use Rattle.sv_rule.specs.UnderWay.{Apart, Stock, excepts, fit}
+use Rattle.sv_rule.specs.UnderWay.{Apart, Stock, excepts}
 use Rattle.sv_rule.specs.Views.{Bodied, Body, Desk, Disk, LaneView, SlotView, Work, begun, idle, opens, sweeping}
 use Rattle.sv_rule.specs.declared.parts.Stored.{Stored}
 use Rattle.sv_rule.proofs.Assembly.{Desks, kept-by-word, low_id}

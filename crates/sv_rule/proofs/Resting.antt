@@ -4,28 +4,22 @@ use Rattle.std.proofs.Common.{List, None, Option, Some, [], ap, arith, cond, fal
 use mathlib.Core.Option.{some}
 use mathlib.Core.Option as maybe
 use lib.ListN.{get_elem?}
-use Rattle.atomic_table.specs.Table.{State, opening}
+use Rattle.atomic_table.specs.Table.{State}
 use Rattle.sv_model.specs.Books.{Books}
 use Rattle.sv_model.specs.Cells.{Cell}
 use Rattle.sv_model.specs.Files.{Files, file_of}
 use Rattle.sv_model.specs.HeldFiles.{HasItsText}
 use Rattle.sv_model.specs.Lists.{Every, In, same, times, total}
-use Rattle.sv_model.specs.TableText.{written}
-use Rattle.sv_model.specs.TableTextFields.{start}
 use Rattle.sv_model.specs.declared.records.Memtable.{Memtable}
 use Rattle.sv_model.specs.declared.sv_refs.SvRef.{SvRef}
 use Rattle.sv_model.specs.declared.writes.Write.{Write}
-use Rattle.sv_model.proofs.FlatReads.{within}
-use Rattle.sv_model.proofs.SearchLaws.{found}
 use Rattle.sv_rule.specs.Fits.{BodyFits}
 use Rattle.sv_rule.specs.Held.{CellSays, FilesHeld, Held, IsCell, IsLent, Says, Told}
 use Rattle.sv_rule.specs.Home.{IsDir, Lock}
 use Rattle.sv_rule.specs.InHand.{Accounts, IsQuiet, WorkHeld}
 use Rattle.sv_rule.specs.Rule.{Kept}
-use Rattle.sv_rule.specs.Sums.{Each, at}
-use Rattle.sv_rule.specs.Supers.{pack, writes}
-use Rattle.sv_rule.specs.Sweep.{lent}
-use Rattle.sv_rule.specs.Table.{Box, cell_word, holds, home, number, number_word, slot_home, word}
+use Rattle.sv_rule.specs.Sums.{Each}
+use Rattle.sv_rule.specs.Table.{Box, cell_word, home, number, number_word, slot_home, word}
 use Rattle.sv_rule.specs.Tasks.{cell_count, due_count, due_of, dues, endings, faults, fill_count, fills, grabs, handles_of, has_cell, has_db, has_dir, has_job, has_output, holds_of, lanes, marks_of, removals, some_count}
 use Rattle.sv_rule.specs.UnderWay.{excepts, fit}
 use Rattle.sv_rule.specs.Views.{Bodied, Body, CellHeld, Desk, Disk, Joined, Known, LaneView, Output, Seat, Start, Task, Work}

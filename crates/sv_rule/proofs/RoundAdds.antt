@@ -11,7 +11,6 @@ use Rattle.sv_model.specs.After.{After}
 use Rattle.sv_model.specs.Books.{Books}
 use Rattle.sv_model.specs.Cells.{Cell}
 use Rattle.sv_model.specs.Families.{is_retired}
-use Rattle.sv_model.specs.Flat.{ends_of}
 use Rattle.sv_model.specs.Lists.{In}
 use Rattle.sv_model.specs.declared.records.Family.{Family}
 use Rattle.sv_model.specs.declared.records.SuperVersion.{SuperVersion}

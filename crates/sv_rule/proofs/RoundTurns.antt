@@ -1,5 +1,5 @@
 -- The round word and what lanes loaded, from step to step.
-use Rattle.std.proofs.Common.{Bool, List, None, Option, Some, [], ap, arith, cond, inl, inr, length, refl, set, slice_get, subst, suc, sym, zero, ℕ, ⊎_elim, ◌+◌, ◌/◌, ◌<◌, ◌==◌, ◌∙◌, ◌∷◌, ◌≡◌, ◌≢◌, ◌≤◌, ◌⊎◌}
+use Rattle.std.proofs.Common.{Bool, List, None, Option, Some, ap, arith, cond, inl, inr, length, refl, set, slice_get, subst, sym, ℕ, ⊎_elim, ◌+◌, ◌/◌, ◌<◌, ◌==◌, ◌∙◌, ◌≡◌, ◌≢◌, ◌≤◌, ◌⊎◌}
 use mathlib.Core.Logic.{dite}
 use mathlib.Core.Option.{some}
 use native.Mathlib.Decide.{dec_le, ℕ_discrete}
@@ -8,15 +8,13 @@ use Rattle.sv_model.specs.After.{After}
 use Rattle.sv_model.specs.Books.{Books}
 use Rattle.sv_model.specs.Lawful.{Lawful}
 use Rattle.sv_model.specs.Lists.{Every, same, total}
-use Rattle.sv_model.specs.TableTextFields.{after}
 use Rattle.sv_model.specs.declared.records.Top.{Top}
 use Rattle.sv_model.proofs.AfterLaws.{after-itself}
-use Rattle.sv_model.proofs.Basics.{none_some}
 use Rattle.sv_rule.specs.Fits.{Together}
 use Rattle.sv_rule.specs.Numbers.{Numbers}
 use Rattle.sv_rule.specs.Rounds.{Loaded, Rounds}
 use Rattle.sv_rule.specs.Sums.{below}
-use Rattle.sv_rule.specs.Supers.{IsSerialOf, current_of, has_current, pack}
+use Rattle.sv_rule.specs.Supers.{IsSerialOf, current_of, has_current}
 use Rattle.sv_rule.specs.Table.{number}
 use Rattle.sv_rule.specs.Tasks.{all_adds}
 use Rattle.sv_rule.specs.Turns.{Opens}

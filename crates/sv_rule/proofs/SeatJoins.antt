@@ -1,5 +1,5 @@
 -- A seat that is joined into another keeps the rule.
-use Rattle.std.proofs.Common.{Bool, List, None, Option, [], ap, arith, cond, false, length, length-append, length-set, refl, set, subst, suc, sym, true, ℕ, ◌+◌, ◌<◌, ◌==◌, ◌∙◌, ◌∷◌, ◌≡◌, ◌≢◌, ◌≤◌}
+use Rattle.std.proofs.Common.{Bool, List, Option, [], ap, arith, cond, false, length, length-append, length-set, refl, set, subst, suc, sym, true, ℕ, ◌+◌, ◌<◌, ◌==◌, ◌∙◌, ◌∷◌, ◌≡◌, ◌≢◌, ◌≤◌}
 use mathlib.Core.Logic.{dite}
 use mathlib.Core.Option.{some}
 use native.Mathlib.Decide.{ℕ_discrete}
@@ -13,21 +13,17 @@ use Rattle.sv_rule.specs.Home.{Seats}
 use Rattle.sv_rule.specs.InHand.{Accounts, IsClosing}
 use Rattle.sv_rule.specs.Rule.{Kept}
 use Rattle.sv_rule.specs.SeatPlays.{IsIdle, gathered, kept_of}
-use Rattle.sv_rule.specs.Sums.{Each, at, below}
-use Rattle.sv_rule.specs.Table.{holders, holds, names, number, owers, slot_of}
+use Rattle.sv_rule.specs.Sums.{Each, at}
+use Rattle.sv_rule.specs.Table.{holds, names, number, slot_of}
 use Rattle.sv_rule.specs.Tasks.{cell_count, has_db, is_spent, job_count, joined_count, lanes, marks_of, output_count, own_lane, some_count}
 use Rattle.sv_rule.specs.Views.{Body, Disk, Joined, LaneView, Mark, SlotView, away}
 use Rattle.sv_rule.specs.declared.parts.Stored.{Stored}
 use Rattle.sv_rule.proofs.Basics.{each_set, every_append, every_cons, every_none, true_not, views-else}
 use Rattle.sv_rule.proofs.CellFinds.{dues_none, fills_le}
 use Rattle.sv_rule.proofs.Cells.{db_none}
-use Rattle.sv_rule.proofs.References.{adds}
 use Rattle.sv_rule.proofs.SeatRest.{kept-by-seats}
 use Rattle.sv_rule.proofs.SeatWork.{Moves, work-seats, zero-cond}
-use Rattle.sv_rule.proofs.Settles.{fills_none}
 use Rattle.sv_rule.proofs.Sums.{at-is, at-set_else, at-set_same, at_lt, same-else, term_le, terms_le, total-append, total-set}
-use Rattle.sv_rule.proofs.Told.{told}
---+ away some
 
 names_none : (q : ℕ) (l : List SlotView) → ((f : ℕ) → at away l f ≡ away) → total (names q) l ≡ 0
 names_none q [] h = refl

@@ -7,10 +7,7 @@ use Rattle.sv_model.specs.Books.{Books}
 use Rattle.sv_model.specs.Cells.{Cell}
 use Rattle.sv_model.specs.Files.{file_of}
 use Rattle.sv_model.specs.HeldFiles.{HasItsText}
-use Rattle.sv_model.specs.Lists.{Every, bit, total}
-use Rattle.sv_model.specs.TableText.{written}
-use Rattle.sv_model.specs.TableTextFields.{start}
-use Rattle.sv_model.proofs.FlatReads.{within}
+use Rattle.sv_model.specs.Lists.{Every, total}
 use Rattle.sv_rule.specs.Blanks.{bare_known, bare_view}
 use Rattle.sv_rule.specs.Fresh.{FreshIn, FreshOf}
 use Rattle.sv_rule.specs.Held.{FilesHeld, IsLent, Says}
@@ -19,9 +16,7 @@ use Rattle.sv_rule.specs.InHand.{WorkHeld}
 use Rattle.sv_rule.specs.Ledger.{most_hand}
 use Rattle.sv_rule.specs.Rounds.{Loaded}
 use Rattle.sv_rule.specs.Rule.{Kept}
-use Rattle.sv_rule.specs.SlotPlays.{looked}
-use Rattle.sv_rule.specs.Sweep.{lent}
-use Rattle.sv_rule.specs.Table.{holders, holds, home, number, owers, owes, reference, slot, word}
+use Rattle.sv_rule.specs.Table.{holders, holds, number, owers, owes, reference, word}
 use Rattle.sv_rule.specs.Tasks.{all_adds, dues, fills, has_cell, has_db, has_dir, marks_of}
 use Rattle.sv_rule.specs.UnderWay.{Stock}
 use Rattle.sv_rule.specs.Views.{Body, CellHeld, Desk, Disk, Joined, LaneView, Output, Seat, Start, away}
@@ -30,10 +25,8 @@ use Rattle.sv_rule.proofs.Basics.{every_none}
 use Rattle.sv_rule.proofs.CellLaws.{says-more}
 use Rattle.sv_rule.proofs.FileTurns.{told-map}
 use Rattle.sv_rule.proofs.Places.{places_same}
-use Rattle.sv_rule.proofs.RoundAdds.{rounds}
 use Rattle.sv_rule.proofs.SeatWork.{Moves, seated}
 use Rattle.sv_rule.proofs.Stepping.{right_same}
---+ away
 
 -- a lane that has nothing is fresh
 pub fresh_none : (b : Books) (n f : ℕ) → FreshOf b n f away 0 0 0

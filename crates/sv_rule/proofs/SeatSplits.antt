@@ -15,29 +15,23 @@ use Rattle.sv_model.specs.Numbers.{IsRegistered}
 use Rattle.sv_model.specs.TableTextFields.{start}
 use Rattle.sv_model.specs.declared.records.FileStatus.TheVariants.{Gone}
 use Rattle.sv_model.specs.declared.writes.Write.{Write}
-use Rattle.sv_model.proofs.SearchLaws.{found}
 use Rattle.sv_rule.specs.Blanks.{bare_known, no_locks, nobody}
 use Rattle.sv_rule.specs.Fits.{BodyFits, IsGoneSnapshot, ReadFits, RowsFit, Together}
 use Rattle.sv_rule.specs.Home.{Seats}
 use Rattle.sv_rule.specs.InHand.{Accounts, IsClosing, WorkHeld}
 use Rattle.sv_rule.specs.Rule.{Kept}
 use Rattle.sv_rule.specs.SeatPlays.{MaySplit, split_left, split_right}
-use Rattle.sv_rule.specs.Sums.{Each, at, below}
-use Rattle.sv_rule.specs.Table.{holders, number, owers, slot_of}
+use Rattle.sv_rule.specs.Sums.{Each, at}
+use Rattle.sv_rule.specs.Table.{number, slot_of}
 use Rattle.sv_rule.specs.Tasks.{is_spent, joined_count, lanes, own_lane}
-use Rattle.sv_rule.specs.Views.{Body, Disk, Joined, LaneView, Start, Work, away}
+use Rattle.sv_rule.specs.Views.{Body, Disk, Joined, LaneView, Start, Work}
 use Rattle.sv_rule.specs.declared.parts.Stored.{Stored}
 use Rattle.sv_rule.proofs.Basics.{each_other, each_set, every_map, every_none, get-past, some_is, true_not, views-else, views-here}
 use Rattle.sv_rule.proofs.Cells.{db_none}
-use Rattle.sv_rule.proofs.Frames.{frames}
 use Rattle.sv_rule.proofs.LaterBooks.{continues-at}
-use Rattle.sv_rule.proofs.References.{adds}
 use Rattle.sv_rule.proofs.SeatRest.{kept-by-seats}
 use Rattle.sv_rule.proofs.SeatWork.{Moves, work-seats}
-use Rattle.sv_rule.proofs.Settles.{fills_none}
 use Rattle.sv_rule.proofs.Sums.{at-is, at-past, at-set_else, at-set_same, at-snoc_else, at-snoc_last, at_lt, same-else, same_le, total-append, total-set, total-zero}
-use Rattle.sv_rule.proofs.Told.{told}
---+ away some
 
 -- what holds of all and of one more holds of all with it
 pub each_snoc : {A : Type 0} (P : ℕ → A → Type 0) (vs : List A) (w : A) → P (length vs) w → Each P vs → Each P (vs ++ w ∷ [])

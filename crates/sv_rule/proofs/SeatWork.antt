@@ -1,25 +1,21 @@
 -- Work in hand, as a seat is made or joined: the seat id becomes l, and x is the view of a seat that has nothing.
 use Rattle.std.proofs.Common.{Bool, List, None, Some, [], ap, arith, cond, false, inl, inr, refl, subst, sym, true, ℕ, ⊎_elim, ◌+◌, ◌<◌, ◌==◌, ◌∙◌, ◌≡◌, ◌≤◌}
-use Rattle.std.specs.Prelude.{is_none}
 use mathlib.Core.Logic.{dite}
 use mathlib.Core.Option.{some}
 use native.Mathlib.Decide.{ℕ_discrete}
 use lib.ListN.{get_elem?}
-use Rattle.atomic_table.specs.Table.{opening, rest}
+use Rattle.atomic_table.specs.Table.{rest}
 use Rattle.sv_model.specs.Books.{Books}
 use Rattle.sv_model.specs.Lists.{Every, In, times, total}
-use Rattle.sv_model.specs.TableTextFields.{start}
 use Rattle.sv_model.proofs.FlatKeys.{gone}
 use Rattle.sv_rule.specs.Blanks.{bare_known, bare_view}
 use Rattle.sv_rule.specs.InHand.{Accounts, IsClosing, IsQuiet, WorkHeld}
-use Rattle.sv_rule.specs.Sums.{Each, at}
-use Rattle.sv_rule.specs.Supers.{writes}
-use Rattle.sv_rule.specs.Table.{cached_at, holds, number, owes, slot_at}
+use Rattle.sv_rule.specs.Sums.{Each}
+use Rattle.sv_rule.specs.Table.{cached_at, holds, owes, slot_at}
 use Rattle.sv_rule.specs.Tasks.{all_adds, dues, endings, faults, fills, grabs, handles_of, has_cell, has_db, has_dir, has_job, has_output, holds_of, lanes, removals}
 use Rattle.sv_rule.specs.UnderWay.{excepts}
-use Rattle.sv_rule.specs.Views.{Disk, Joined, LaneView, Output, Seat, Start, Work, away}
+use Rattle.sv_rule.specs.Views.{Disk, Joined, LaneView, Output, Seat, Start, Work}
 use Rattle.sv_rule.proofs.Basics.{every_none, true_not}
---+ away
 
 pub zero-cond : (q : Bool) (n : ℕ) → n ≡ 0 → cond q n 0 ≡ 0
 zero-cond true n e = e

@@ -9,14 +9,12 @@ use Rattle.sv_model.specs.Cells.{Cell}
 use Rattle.sv_model.specs.Lists.{same, total}
 use Rattle.sv_model.specs.declared.records.Family.{Family}
 use Rattle.sv_model.specs.declared.records.SuperVersion.{SuperVersion}
-use Rattle.sv_model.proofs.FlatKeys.{gone}
 use Rattle.sv_rule.specs.Fits.{BodyFits}
 use Rattle.sv_rule.specs.Fresh.{FreshOf}
 use Rattle.sv_rule.specs.Home.{IsState}
 use Rattle.sv_rule.specs.Ledger.{Counted, Vacant}
 use Rattle.sv_rule.specs.ReferencePlays.{MaySettle, Settled, settled}
 use Rattle.sv_rule.specs.Rule.{Kept}
-use Rattle.sv_rule.specs.Sums.{at}
 use Rattle.sv_rule.specs.Supers.{LiveAt, current_of, pack}
 use Rattle.sv_rule.specs.Table.{holders, home, number, number_word, owers, owes, reference, reference_word, slot, slot_word, word}
 use Rattle.sv_rule.specs.Tasks.{due_of, fill_count, fills, has_db, some_count}

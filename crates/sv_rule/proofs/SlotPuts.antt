@@ -8,23 +8,20 @@ use Rattle.sv_model.specs.Books.{Books}
 use Rattle.sv_model.specs.Cells.{Cell}
 use Rattle.sv_model.specs.Lists.{In, same, total}
 use Rattle.sv_model.specs.declared.sv_refs.SvRef.{SvRef}
-use Rattle.sv_model.proofs.FlatFirsts.{marks}
 use Rattle.sv_rule.specs.Fits.{BodyFits}
 use Rattle.sv_rule.specs.Fresh.{Past}
 use Rattle.sv_rule.specs.Ledger.{most_hand}
 use Rattle.sv_rule.specs.Rule.{Kept}
-use Rattle.sv_rule.specs.SlotPlays.{PutBack, Rested, counted, looked, rested, slotted}
+use Rattle.sv_rule.specs.SlotPlays.{PutBack, Rested, counted, rested, slotted}
 use Rattle.sv_rule.specs.Sums.{at, put}
-use Rattle.sv_rule.specs.Supers.{pack}
 use Rattle.sv_rule.specs.Sweep.{lent, pack_of}
-use Rattle.sv_rule.specs.Table.{Box, home, names, number, slot, slot_home, slot_of, slot_word, spot}
+use Rattle.sv_rule.specs.Table.{Box, names, number, slot, slot_home, slot_of, slot_word, spot}
 use Rattle.sv_rule.specs.UnderWay.{fit}
 use Rattle.sv_rule.specs.Views.{Body, Disk, LaneView, away, borrow, held}
 use Rattle.sv_rule.specs.declared.parts.Stored.{Stored}
 use Rattle.sv_rule.specs.declared.parts.Stored.TheVariants as is
 use Rattle.sv_rule.proofs.OwnSlots.{kept_by_own, lane_lt, out_of, own_fresh, own_right, reach, reach_len, stock_reached}
 use Rattle.sv_rule.proofs.Sums.{at-put_else, at-put_same, marked}
---+ away held borrow
 
 -- a slot has one value
 same_ref : {S D C B : Type 0} (x y : SvRef B) → ◌≡◌ {A = Box (Stored S D C B)} (some (some (is.Cached x))) (some (some (is.Cached y))) → x ≡ y

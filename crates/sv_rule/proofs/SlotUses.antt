@@ -6,33 +6,30 @@ use mathlib.Core.Option as maybe
 use native.Mathlib.Decide.{dec_le, ℕ_discrete}
 use lib.ListN.{get_elem?}
 use Rattle.atomic_table.proofs.Lists.{set_else, set_here}
-use Rattle.atomic_table.specs.Table.{Act, Allows, Me, Valid, carried_after, keeps, step, stepped, takes}
+use Rattle.atomic_table.specs.Table.{Act, Allows, Me, Valid, carried_after, keeps, stepped, takes}
 use Rattle.sv_model.specs.Books.{Books}
 use Rattle.sv_model.specs.Cells.{Cell}
 use Rattle.sv_model.specs.Lists.{same}
 use Rattle.sv_model.specs.declared.sv_refs.SvRef.{SvRef}
-use Rattle.sv_model.proofs.FlatFirsts.{marks}
 use Rattle.sv_rule.specs.Fits.{BodyFits}
 use Rattle.sv_rule.specs.Fresh.{Past, floor_of}
 use Rattle.sv_rule.specs.Home.{SlotOk}
 use Rattle.sv_rule.specs.InHand.{Accounts}
 use Rattle.sv_rule.specs.Rule.{Kept}
-use Rattle.sv_rule.specs.SlotPlays.{IsCurrentAt, Used, counted, looked, slotted}
+use Rattle.sv_rule.specs.SlotPlays.{IsCurrentAt, Used, counted, slotted}
 use Rattle.sv_rule.specs.Sums.{at, put}
-use Rattle.sv_rule.specs.Supers.{current_of, pack}
+use Rattle.sv_rule.specs.Supers.{current_of}
 use Rattle.sv_rule.specs.Sweep.{Right, lent, pack_of}
 use Rattle.sv_rule.specs.Table.{Box, names, number, slot, slot_home, slot_of, slot_word, spot, word}
 use Rattle.sv_rule.specs.UnderWay.{excepts, fit, middle}
-use Rattle.sv_rule.specs.Views.{Bodied, Body, Desk, Disk, LaneView, SlotView, away, borrow, held, idle}
+use Rattle.sv_rule.specs.Views.{Bodied, Body, Desk, Disk, LaneView, SlotView, away, held, idle}
 use Rattle.sv_rule.specs.declared.parts.Stored.{Stored}
 use Rattle.sv_rule.specs.declared.parts.Stored.TheVariants as is
 use Rattle.sv_rule.proofs.Assembly.{M}
 use Rattle.sv_rule.proofs.Basics.{by_desk, every_cons, every_none}
 use Rattle.sv_rule.proofs.OwnSlots.{fit_idle, kept_by_own, lane_lt, own_fresh, own_right}
 use Rattle.sv_rule.proofs.Resting.{accounts-bodies}
-use Rattle.sv_rule.proofs.SlotPuts.{rests}
 use Rattle.sv_rule.proofs.Sums.{at-put_else, at-put_same, at_lt, marked}
---+ away held borrow none
 
 -- the view after the use, which may know more bodies
 abbrev used_view : ℕ → LaneView → ℕ → ℕ → ℕ → SlotView → List Bodied → LaneView
@@ -129,4 +126,3 @@ module _ {S D C B : Type 0} (books : S → Books) (disk : D → Disk) (cell : C 
                 (λ q y. marked q r y small) (omega (arith, o.out pos small, ap lent free)) (λ big. absurd (omega arith)) refl,
             record { empty = λ e. absurd (some_found e); cached = λ y. absurd (nz y); swept = λ _ _. refl; marks = λ _. ok.marks small; current = current; known = o.cached; still = still },
           )))
-

@@ -5,30 +5,23 @@ use Rattle.sv_model.specs.Described.{IsFileOf}
 use Rattle.sv_model.specs.Journal.{by_lane}
 use Rattle.sv_model.specs.Lists.{Every, same, times, total}
 use Rattle.sv_model.specs.Registers.{entry}
-use Rattle.sv_model.specs.TableTextFields.{after}
 use Rattle.sv_model.specs.declared.records.Memtable.{Memtable}
-use Rattle.sv_model.proofs.FlatFirsts.{marks}
-use Rattle.sv_model.proofs.FlatReads.{within}
-use Rattle.sv_model.proofs.KeyOrder.{above}
 use Rattle.sv_rule.specs.Fits.{BodyFits, IsFrozenAt}
 use Rattle.sv_rule.specs.Fresh.{FreshOf}
 use Rattle.sv_rule.specs.Held.{Occupied, Says, has_rows, is_vacant}
 use Rattle.sv_rule.specs.Holding.{by_hand, by_number, by_word, holders_of}
 use Rattle.sv_rule.specs.Numbers.{NumberOk}
 use Rattle.sv_rule.specs.Rounds.{Loaded}
-use Rattle.sv_rule.specs.SlotPlays.{looked}
 use Rattle.sv_rule.specs.Sums.{at, below}
-use Rattle.sv_rule.specs.Supers.{IsPackOf, current_of, has_current, pack}
+use Rattle.sv_rule.specs.Supers.{IsPackOf, current_of, has_current}
 use Rattle.sv_rule.specs.Sweep.{Right}
 use Rattle.sv_rule.specs.Table.{cached_at, holders, number, owers, reference, slot, slot_at, slot_of, spot, word}
 use Rattle.sv_rule.specs.Tasks.{all_adds, handle, has_db, has_dir, has_job, is_spent, joined_count, lanes}
 use Rattle.sv_rule.specs.UnderWay.{Apart, Stock, fit, middle, sets}
-use Rattle.sv_rule.specs.Views.{LaneView, away, sweeping}
+use Rattle.sv_rule.specs.Views.{LaneView}
 use Rattle.sv_rule.proofs.Basics.{every_cons, every_none, get_none, some_is}
 use Rattle.sv_rule.proofs.CurrentLaws.{serial_le}
-use Rattle.sv_rule.proofs.SeatJoins.{joins}
 use Rattle.sv_rule.proofs.SmallWorld.{Small, b, it, lane0, lane1, m1, m2, s1, s2, vs, work}
---+ away sweeping has_rows is_vacant
 
 -- ---- Home
 

@@ -10,15 +10,7 @@ use Rattle.sv_model.specs.declared.records.Memtable.{Memtable}
 use Rattle.sv_model.specs.declared.records.SuperVersion.{SuperVersion}
 use Rattle.sv_model.specs.declared.writes.Write.{Write}
 use Rattle.sv_rule.specs.Blanks.{bare_known, new_view, no_counts, no_locks}
-use Rattle.sv_rule.specs.SlotPlays.{looked}
-use Rattle.sv_rule.specs.Supers.{pack}
-use Rattle.sv_rule.specs.Table.{holds, slot}
-use Rattle.sv_rule.specs.Tasks.{faults}
-use Rattle.sv_rule.specs.Views.{Bodied, LaneView, Start, Work, away, sweeping}
-use Rattle.sv_rule.proofs.Loads.{loads}
-use Rattle.sv_rule.proofs.References.{adds}
-use Rattle.sv_rule.proofs.Stepping.{next}
---+ away sweeping
+use Rattle.sv_rule.specs.Views.{Bodied, LaneView, Start, Work, sweeping}
 
 abbrev pub w : Write
 w = record { family = 0; key = 107 ∷ []; op = op.Delete; mem = 1; lane = 1 }

@@ -12,10 +12,7 @@ use Rattle.sv_model.specs.Lawful.{Lawful}
 use Rattle.sv_model.specs.Lists.{Every, bit, same}
 use Rattle.sv_model.specs.Openings.{IsOpening, first_memtable, opening_books}
 use Rattle.sv_model.specs.Registers.{entry}
-use Rattle.sv_model.specs.TableTextFields.{start}
 use Rattle.sv_model.specs.declared.records.Memtable.{Memtable}
-use Rattle.sv_model.proofs.FlatFirsts.{marks}
-use Rattle.sv_model.proofs.FlatKeys.{gone}
 use Rattle.sv_rule.specs.Begins.{FirstBooks, FirstCell, FirstSlots, FirstWords}
 use Rattle.sv_rule.specs.Blanks.{first_view, no_locks}
 use Rattle.sv_rule.specs.Fresh.{FreshIn}
@@ -37,13 +34,10 @@ use Rattle.sv_rule.proofs.Basics.{each_one, every_none}
 use Rattle.sv_rule.proofs.CurrentLaws.{current_ends, current_is, current_marks, current_newest, get_lt, has_current_le, has_current_none, some-at}
 use Rattle.sv_rule.proofs.FirstBooks.{based-first, bears_none, below-one, below-upto, below-zero, by_less, current_at_first, current_none, nth_memtable, super_at, super_only}
 use Rattle.sv_rule.proofs.FirstWork.{files-first, work-first}
-use Rattle.sv_rule.proofs.RoundAdds.{rounds}
 use Rattle.sv_rule.proofs.SeatRest.{fresh_none}
 use Rattle.sv_rule.proofs.SlotPuts.{no_ref}
 use Rattle.sv_rule.proofs.Stepping.{next}
 use Rattle.sv_rule.proofs.Sums.{same-else, same_le, same_one}
-use Rattle.sv_rule.proofs.Told.{told}
---+ away some has_rows is_vacant
 
 no_some : {A : Type 0} (d : A) → None ≡ Some d → ⊥
 no_some d e = cc
@@ -107,7 +101,7 @@ module _ {S D C B : Type 0} (books : S → Books) (disk : D → Disk) (cell : C 
     arith,
     held_is (pack t k) (omega (arith, pos)),
     below-zero (λ f. same (pack t k) (number O f)) 16 (λ f less. other (pack t k) f (omega (arith, pos)) less (λ l e.
-      let same_place : k ≡ f = omega (arith, e, near, l, most) in not (omega (arith, same_place, l)) (omega (arith, e, same_place)))),
+        let same_place : k ≡ f = omega (arith, e, near, l, most) in not (omega (arith, same_place, l)) (omega (arith, e, same_place)))),
   )
 
   places : Places b.supers (reference O) (holders O) (owers O)

@@ -1,5 +1,5 @@
 -- A step sets one word, may move one value, and gives one lane another view. What it does not touch stands.
-use Rattle.std.proofs.Common.{Bool, List, None, Some, [], ap, arith, cond, false, get_or-set_other, get_or-set_same, length, length-set, refl, set, subst, sym, true, ℕ, ◌*◌, ◌+◌, ◌<◌, ◌∙◌, ◌∷◌, ◌≡◌, ◌≢◌, ◌≤◌}
+use Rattle.std.proofs.Common.{Bool, List, Some, [], ap, arith, cond, false, get_or-set_other, get_or-set_same, length, length-set, refl, set, subst, sym, true, ℕ, ◌*◌, ◌+◌, ◌<◌, ◌∙◌, ◌∷◌, ◌≡◌, ◌≢◌, ◌≤◌}
 use mathlib.Core.Logic.{dite}
 use mathlib.Core.Option.{some}
 use mathlib.Core.Option as maybe
@@ -22,7 +22,6 @@ use Rattle.sv_rule.specs.UnderWay.{Apart, Stock, fit, middle}
 use Rattle.sv_rule.specs.Views.{Desk, Joined, LaneView, Load, SlotView, Work, away, begun, borrow, held, idle, opens, sweeping}
 use Rattle.sv_rule.proofs.Basics.{each_set}
 use Rattle.sv_rule.proofs.Sums.{at-is, at-set_else, at-set_same, below-put, below-same, below_le, same_le, term_le, total-same_le, total-set, total_le}
---+ away held borrow
 
 -- ---- views
 

@@ -16,7 +16,6 @@ use Rattle.sv_rule.specs.Home.{SlotOk}
 use Rattle.sv_rule.specs.InHand.{Accounts}
 use Rattle.sv_rule.specs.Ledger.{most_hand}
 use Rattle.sv_rule.specs.Rule.{Kept}
-use Rattle.sv_rule.specs.Supers.{pack}
 use Rattle.sv_rule.specs.Sweep.{Right, Rights}
 use Rattle.sv_rule.specs.SweepPlays.{beyond, works}
 use Rattle.sv_rule.specs.Table.{cached_at, number, slot, slot_at, slot_home, slot_word, spot}
@@ -25,7 +24,7 @@ use Rattle.sv_rule.specs.UnderWay.{Apart, Stock, excepts, fit, middle}
 use Rattle.sv_rule.specs.Views.{Bodied, Body, Desk, Disk, LaneView, Locks, SlotView, Work, idle, sweeping}
 use Rattle.sv_rule.specs.declared.parts.Stored.{Stored}
 use Rattle.sv_rule.specs.declared.parts.Stored.TheVariants as is
-use Rattle.sv_rule.proofs.Assembly.{M, N, kept-by-slot, low_id, m_else, m_here, m_numbers}
+use Rattle.sv_rule.proofs.Assembly.{M, kept-by-slot, low_id, m_else, m_here, m_numbers}
 use Rattle.sv_rule.proofs.Basics.{no_desk_in}
 use Rattle.sv_rule.proofs.DbLock.{db-desk, owners-desk}
 use Rattle.sv_rule.proofs.Drops.{fit_here, sweep_ends}
@@ -100,4 +99,3 @@ beyond_excepts lanes f old l taken g = beyond_case (λ z. excepts g z ≡ 0) lan
 -- the lane l is passed
 pub right_passed : (f old l taken lanes : ℕ) (number slot' : ℕ → ℕ) (vs : List LaneView) → length vs ≤ lanes → Rights (sweeping f old (l + 1) false taken) number slot' vs → Rights (beyond lanes f old l taken) number slot' vs
 right_passed f old l taken lanes number slot' vs few rights = beyond_case (λ z. Rights z number slot' vs) lanes f old l taken (λ _ e. sweep_ends f old (l + 1) taken lanes number slot' vs e few rights) rights
-

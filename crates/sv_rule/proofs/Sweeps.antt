@@ -10,12 +10,10 @@ use Rattle.sv_model.specs.Books.{Books}
 use Rattle.sv_model.specs.Cells.{Cell}
 use Rattle.sv_model.specs.Lists.{same}
 use Rattle.sv_model.specs.declared.sv_refs.SvRef.{SvRef}
-use Rattle.sv_model.proofs.FlatFirsts.{marks}
 use Rattle.sv_rule.specs.Fits.{BodyFits}
 use Rattle.sv_rule.specs.Home.{SlotOk}
 use Rattle.sv_rule.specs.Ledger.{most_hand}
 use Rattle.sv_rule.specs.Rule.{Kept}
-use Rattle.sv_rule.specs.Supers.{pack}
 use Rattle.sv_rule.specs.Sweep.{Right}
 use Rattle.sv_rule.specs.SweepPlays.{Swept, beyond}
 use Rattle.sv_rule.specs.Table.{Box, cached_at, number, slot, slot_at, slot_home, slot_word, spot}
@@ -28,7 +26,6 @@ use Rattle.sv_rule.proofs.Resting.{accounts-bodies}
 use Rattle.sv_rule.proofs.RoundTurns.{rounds_of}
 use Rattle.sv_rule.proofs.Sums.{at_lt, marked, same-self}
 use Rattle.sv_rule.proofs.SweepSteps.{beyond_case, beyond_excepts, fit-pass, fit_now, in_row, kept-by-sweep, other_middle, right_passed, swept_view}
---+ none
 
 module _ {S D C B : Type 0} (books : S → Books) (disk : D → Disk) (cell : C → Option Cell) (body : B → Body) where
   -- what the rule says of the sweep under way
@@ -120,4 +117,3 @@ module _ {S D C B : Type 0} (books : S → Books) (disk : D → Disk) (cell : C 
     where
       out_not : (y : SvRef B) → ◌≡◌ {A = Box (Stored S D C B)} (some none) (some (some (is.Cached y))) → ⊥
       out_not y e = cc
-

@@ -16,7 +16,6 @@ use Rattle.sv_model.specs.TableTextFields.{start}
 use Rattle.sv_model.specs.declared.records.FileStatus.TheVariants.{Gone}
 use Rattle.sv_model.specs.declared.records.Memtable.{Memtable}
 use Rattle.sv_model.specs.declared.writes.Write.{Write}
-use Rattle.sv_model.proofs.FlatKeys.{gone}
 use Rattle.sv_model.proofs.Lists.{times_in}
 use Rattle.sv_model.proofs.Registers.{entry-new}
 use Rattle.sv_model.proofs.SearchLaws.{found}
@@ -25,8 +24,7 @@ use Rattle.sv_rule.specs.Held.{CellSays, FilesHeld, Says, fills_up}
 use Rattle.sv_rule.specs.Home.{IsDir, Lock}
 use Rattle.sv_rule.specs.InHand.{Accounts, CurrentsStand}
 use Rattle.sv_rule.specs.Rule.{Kept}
-use Rattle.sv_rule.specs.Sums.{Each, at}
-use Rattle.sv_rule.specs.Supers.{pack}
+use Rattle.sv_rule.specs.Sums.{Each}
 use Rattle.sv_rule.specs.Table.{home, number, word}
 use Rattle.sv_rule.specs.Tasks.{due_count, due_of, dues, faults, fill_count, fills, has_db, has_dir, some_count}
 use Rattle.sv_rule.specs.Turns.{EndsSuper, IsNewMemtable, Turns}
@@ -37,14 +35,12 @@ use Rattle.sv_rule.proofs.Basics.{append_none, each_set}
 use Rattle.sv_rule.proofs.CellLaws.{says-ended, says-new}
 use Rattle.sv_rule.proofs.FileTurns.{files-turn, told-map}
 use Rattle.sv_rule.proofs.FitLaws.{body-after, fits-after}
-use Rattle.sv_rule.proofs.Frames.{frames}
 use Rattle.sv_rule.proofs.InHandTurns.{ended-turn, removed-turn, work-turns}
 use Rattle.sv_rule.proofs.LoadSteps.{L}
 use Rattle.sv_rule.proofs.LockLaws.{lock-else}
 use Rattle.sv_rule.proofs.Resting.{Rest, held-by, says-books, says-step}
 use Rattle.sv_rule.proofs.Stepping.{next, view_le, view_same, word_else}
 use Rattle.sv_rule.proofs.Sums.{same_one, total-append, total-set}
---+ fills_up
 
 -- what a lane knows, in later books in which it has another task and more bodies
 pub accounts-turn : (a b : Books) → After a b → Lawful b → (k : Known) (u : Task) (L : List Bodied) → by_lane k.lane b.journal ≡ k.mine → Every (BodyFits b) L

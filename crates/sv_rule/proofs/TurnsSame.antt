@@ -7,18 +7,13 @@ use Rattle.sv_model.specs.Lawful.{Lawful}
 use Rattle.sv_model.specs.Lists.{same, times, total}
 use Rattle.sv_model.specs.Numbers.{having}
 use Rattle.sv_model.specs.Summaries.{is_gone}
-use Rattle.sv_model.specs.TableText.{written}
 use Rattle.sv_model.specs.TableTextFields.{start}
 use Rattle.sv_model.proofs.AfterLaws.{after-itself}
-use Rattle.sv_model.proofs.FlatFirsts.{marks}
-use Rattle.sv_model.proofs.FlatKeys.{gone}
 use Rattle.sv_model.proofs.Lists.{total_at}
 use Rattle.sv_rule.specs.InHand.{WorkHeld}
-use Rattle.sv_rule.specs.Sums.{at}
-use Rattle.sv_rule.specs.Table.{holds, number}
+use Rattle.sv_rule.specs.Table.{number}
 use Rattle.sv_rule.specs.Tasks.{grabs, has_job, has_output, lanes, marks_of, output_count, own_lane}
 use Rattle.sv_rule.specs.Turns.{IsAccounted, Stands, Turns}
-use Rattle.sv_rule.specs.UnderWay.{begins}
 use Rattle.sv_rule.specs.Views.{Disk, LaneView, Mark, Start, Work}
 use Rattle.sv_rule.proofs.Basics.{append_none, get_none}
 use Rattle.sv_rule.proofs.Stepping.{view_le}

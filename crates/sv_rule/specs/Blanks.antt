@@ -1,8 +1,8 @@
 -- The views of new seats, and of a seat that was joined.
-use Rattle.std.specs.Prelude.{ℕ, Bool, true, false, List, [], ◌∷◌, Option, None, Some}
+use Rattle.std.specs.Prelude.{ℕ, true, false, List, [], ◌∷◌, None, Some}
 use Rattle.sv_model.specs.Books.{Books}
 use Rattle.sv_model.specs.Families.{first_options}
-use Rattle.sv_rule.specs.Views.{Bodied, Disk, Start, Task, Known, Work, Desk, Locks, Slots, Counts, Seat, LaneView, idle, opens, begun, sweeping}
+use Rattle.sv_rule.specs.Views.{Bodied, Disk, Start, Task, Known, Work, Desk, Locks, Slots, Counts, Seat, LaneView, idle, sweeping}
 
 abbrev pub no_books : Books
 no_books = record {

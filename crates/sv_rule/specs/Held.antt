@@ -11,7 +11,7 @@ use Rattle.sv_model.specs.Books.{Books}
 use Rattle.sv_model.specs.Cells.{Cell}
 use Rattle.sv_model.specs.Files.{Files, file_of}
 use Rattle.sv_model.specs.HeldFiles.{HasItsText, FilesHold}
-use Rattle.sv_model.specs.Lists.{In, Every, total}
+use Rattle.sv_model.specs.Lists.{Every, total}
 use Rattle.sv_model.specs.Registers.{entry}
 use Rattle.sv_rule.specs.declared.parts.Stored.{Stored}
 use Rattle.sv_rule.specs.declared.parts.Stored.TheVariants as is

@@ -1,6 +1,6 @@
 -- What is at home, and which view holds what is out: the locks of the state and of the directory, and the slots of
 -- lanes. And who has a seat.
-use Rattle.std.specs.Prelude.{◌≡◌, ℕ, ◌+◌, ◌<◌, ◌≤◌, true, false, List, Some, None, length}
+use Rattle.std.specs.Prelude.{◌≡◌, ℕ, ◌<◌, ◌≤◌, true, false, List, Some, length}
 use mathlib.Core.Option as maybe
 use Rattle.atomic_table.specs.Table.{State}
 use Rattle.sv_model.specs.Lists.{total, Every}

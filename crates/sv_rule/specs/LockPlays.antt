@@ -15,7 +15,7 @@ use Rattle.sv_rule.specs.declared.parts.Stored.{Stored}
 use Rattle.sv_rule.specs.declared.parts.Stored.TheVariants as is
 use Rattle.sv_rule.specs.Sums.{at, put}
 use Rattle.sv_rule.specs.Supers.{LiveAt, current_of}
-use Rattle.sv_rule.specs.Views.{LaneView, Known, Desk, CellHeld, Disk, Task, Output, Mark, Bodied, FrozenAt, RowsRead, FileRead, Work, idle, borrow}
+use Rattle.sv_rule.specs.Views.{LaneView, Desk, Disk, Task, Output, Mark, Bodied, FrozenAt, RowsRead, FileRead, Work, idle, borrow}
 use Rattle.sv_rule.specs.Tasks.{marks_of, has_output, grabs, has_job}
 use Rattle.sv_rule.specs.Fits.{Fits}
 use Rattle.sv_rule.specs.Held.{CellSays, Occupied, Told}

@@ -6,7 +6,6 @@ use Rattle.sv_model.specs.Registers.{EachEntry, entry}
 use Rattle.sv_model.specs.declared.records.Memtable.{Memtable}
 use Rattle.sv_model.specs.declared.records.SuperVersion.{SuperVersion}
 use Rattle.sv_rule.specs.Supers.{IsPackOf, IsSerialOf, current_of, end_at, writes}
-use Rattle.sv_rule.specs.Table.{number}
 use Rattle.sv_rule.specs.UnderWay.{excepts}
 use Rattle.sv_rule.specs.Views.{Work}
 

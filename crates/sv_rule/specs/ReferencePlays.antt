@@ -10,7 +10,7 @@ use Rattle.sv_rule.specs.Fits.{BodyFits}
 use Rattle.sv_rule.specs.Ledger.{most_hand}
 use Rattle.sv_rule.specs.Sums.{without}
 use Rattle.sv_rule.specs.Supers.{current_of}
-use Rattle.sv_rule.specs.Table.{holds, number, owes}
+use Rattle.sv_rule.specs.Table.{holds}
 use Rattle.sv_rule.specs.Tasks.{lanes}
 use Rattle.sv_rule.specs.Turns.{EndsSuper, IsNewMemtable, Opens, Turns}
 use Rattle.sv_rule.specs.Views.{Bodied, Desk, LaneView, Task, Work, begun, idle, opens, sweeping}

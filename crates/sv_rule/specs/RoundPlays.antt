@@ -8,7 +8,7 @@ use Rattle.sv_model.specs.declared.records.Family.{Family}
 use Rattle.sv_rule.specs.Fits.{BodyFits}
 use Rattle.sv_rule.specs.Ledger.{most_hand}
 use Rattle.sv_rule.specs.Numbers.{NumberOk}
-use Rattle.sv_rule.specs.SlotPlays.{looked, reached}
+use Rattle.sv_rule.specs.SlotPlays.{reached}
 use Rattle.sv_rule.specs.Sums.{put, without}
 use Rattle.sv_rule.specs.Supers.{current_of}
 use Rattle.sv_rule.specs.Turns.{EndsCurrent, Turns}

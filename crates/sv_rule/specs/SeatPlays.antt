@@ -1,5 +1,5 @@
 -- What the making and the joining of a seat make of views, and what they need.
-use Rattle.std.specs.Prelude.{◌≡◌, ℕ, ◌+◌, ◌<◌, false, List, [], ◌∷◌, ◌++◌, None, length}
+use Rattle.std.specs.Prelude.{◌≡◌, ℕ, ◌+◌, ◌<◌, false, [], ◌∷◌, ◌++◌, None, length}
 use Rattle.sv_rule.specs.Sums.{at}
 use Rattle.sv_rule.specs.Table.{slot_of}
 use Rattle.sv_rule.specs.Views.{LaneView, Joined, away}

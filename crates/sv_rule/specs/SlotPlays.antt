@@ -1,5 +1,5 @@
 -- What a lane's steps on its own slots, and its loads, make of its view, and what they tell.
-use Rattle.std.specs.Prelude.{◌≡◌, ◌≢◌, ◌⊎◌, ℕ, zero, suc, ◌+◌, ◌<◌, ◌≤◌, ◌==◌, nat_le, Bool, true, false, cond, List, [], ◌∷◌, ◌++◌, Option, Some, None}
+use Rattle.std.specs.Prelude.{◌≡◌, ◌≢◌, ◌⊎◌, ℕ, zero, suc, ◌+◌, ◌<◌, ◌≤◌, ◌==◌, nat_le, Bool, true, false, cond, List, [], ◌∷◌, Option, Some, None}
 use Rattle.atomic_table.specs.Table.{Me, rest}
 use Rattle.sv_model.specs.declared.sv_refs.SvRef.{SvRef}
 use Rattle.sv_model.specs.Lists.{In, total, same, times}
@@ -7,7 +7,7 @@ use Rattle.sv_rule.specs.declared.parts.Stored.{Stored}
 use Rattle.sv_rule.specs.declared.parts.Stored.TheVariants as is
 use Rattle.sv_rule.specs.Sums.{at, put, without}
 use Rattle.sv_rule.specs.Supers.{current_of}
-use Rattle.sv_rule.specs.Views.{LaneView, Desk, Work, SlotView, Body, Bodied, Load, away, held, borrow, idle, opens, begun, sweeping}
+use Rattle.sv_rule.specs.Views.{LaneView, Desk, SlotView, Body, away, held, borrow, idle, opens, begun, sweeping}
 use Rattle.sv_rule.specs.Table.{slot_home, spot, slot_of}
 use Rattle.sv_rule.specs.ReferencePlays.{learnt}
 

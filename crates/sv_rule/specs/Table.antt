@@ -1,5 +1,5 @@
 -- The words and slots of the table by their meaning, and who holds a SuperVersion.
-use Rattle.std.specs.Prelude.{ℕ, ◌+◌, ◌*◌, slice_index, Some, None, List, [], ◌∷◌, ◌++◌, ◌==◌, cond, if◌then◌else◌, length}
+use Rattle.std.specs.Prelude.{ℕ, ◌+◌, ◌*◌, slice_index, List}
 use lib.ListN.{get_elem?}
 use mathlib.Core.Option as maybe
 use Rattle.atomic_table.specs.Table.{State}

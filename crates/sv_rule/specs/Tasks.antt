@@ -1,11 +1,11 @@
 -- What the views have in hand, counted.
-use Rattle.std.specs.Prelude.{◌==◌, ◌+◌, ℕ, Bool, true, false, cond, List, [], Option, None, Some, slice_get, option_map, map, length}
+use Rattle.std.specs.Prelude.{◌==◌, ◌+◌, ℕ, Bool, cond, List, [], Option, None, Some, slice_get, option_map, map, length}
 use Rattle.sv_model.specs.declared.records.Family.{Family}
 use Rattle.sv_model.specs.declared.records.Snapshot.{Snapshot}
 use Rattle.sv_model.specs.Lists.{total, same, times, bit}
 use Rattle.sv_model.specs.Registers.{entry}
 use Rattle.sv_rule.specs.Sums.{at}
-use Rattle.sv_rule.specs.Views.{Task, Output, Mark, Desk, CellHeld, Disk, Known, Joined, LaneView}
+use Rattle.sv_rule.specs.Views.{Task, Output, Mark, CellHeld, Known, LaneView}
 
 -- ---- of a task
 

@@ -1,5 +1,5 @@
 -- What the work of the lane with the DB lock means for the words.
-use Rattle.std.specs.Prelude.{◌≡◌, ◌≢◌, ℕ, ◌==◌, cond, nat_le, ◌<◌, ◌≤◌, true, List}
+use Rattle.std.specs.Prelude.{◌≢◌, ℕ, ◌==◌, cond, nat_le, ◌<◌, ◌≤◌, true, List}
 use Rattle.sv_model.specs.Lists.{total, same}
 use Rattle.sv_model.specs.Books.{Books}
 use Rattle.sv_rule.specs.Supers.{current_of}

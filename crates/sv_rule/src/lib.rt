@@ -9,13 +9,17 @@ mod plays;
 mod rule;
 mod view;
 
-pub use locks::{Gather, GiveCell, GiveDb, GiveDir, SplitLane, TakeCell, TakeDb, TakeDir, WriteCell};
+pub use locks::{
+    Gather, GiveCell, GiveDb, GiveDir, SplitLane, TakeCell, TakeDb, TakeDir, WriteCell,
+};
 pub use parts::{Parts, Stored};
 pub use picks::{
-    At, Begun, Celled, Cleans, Counting, Creates, Cuts, Embodied, Ends, Named, Placed, Reports, Swaps, Tasked, Writes,
+    At, Begun, Celled, Cleans, Counting, Creates, Cuts, Embodied, Ends, Named, Placed, Reports,
+    Swaps, Tasked, Writes,
 };
 pub use plays::{
-    Add, AddRound, Clean, Create, EndCurrent, Frame, Look, Pass, PutSlot, Rest, Subtract, Swap, Sweep, Use,
+    Add, AddRound, Clean, Create, EndCurrent, Frame, Look, Pass, PutSlot, Rest, Subtract, Swap,
+    Sweep, Use,
 };
 pub use rule::{Opening, Rule};
 pub use view::View;
