@@ -39,7 +39,8 @@ append_none (x ∷ l) = ap (λ z. x ∷ z) (append_none l)
 pub every_none : {A : Type 0} (P : A → Type 0) → Every P []
 every_none P i x e = absurd (get_none i x e)
 
-pub get_push : {A : Type 0} (l : List A) (y : A) (n : ℕ) (x : A) → slice_get (l ++ y ∷ []) n ≡ Some x → (slice_get l n ≡ Some x) ⊎ (x ≡ y)
+pub get_push : {A : Type 0} (l : List A) (y : A) (n : ℕ) (x : A) → slice_get (l ++ y ∷ []) n ≡ Some x
+    → (slice_get l n ≡ Some x) ⊎ (x ≡ y)
 get_push [] y zero x is = inr (sym (some_is is))
 get_push [] y (suc n) x is = absurd (cc)
 get_push (z ∷ l) y zero x is = inl is
@@ -63,12 +64,16 @@ every_map P Q l f all i x e = f x (all i x e)
 -- ---- each view
 
 -- what holds of the new view and of each other holds of all
-pub each_set : {A : Type 0} (P : ℕ → A → Type 0) (vs : List A) (id : ℕ) (w : A) → P id w → Each P vs → Each P (set vs id w)
-each_set {A} P vs id w mine all j u e = ⊎_elim (λ (t : (j ≡ id) × (w ≡ u)). subst (λ (x : ℕ × A). P x.0 x.1) (λ i. (sym t.0 i, t.1 i)) mine) (λ t. all j u t.1) (at_set vs id j w u e)
+pub each_set : {A : Type 0} (P : ℕ → A → Type 0) (vs : List A) (id : ℕ) (w : A) → P id w → Each P vs
+    → Each P (set vs id w)
+each_set {A} P vs id w mine all j u e = ⊎_elim (λ (t : (j ≡ id) × (w ≡ u)). subst (λ (x : ℕ × A). P x.0 x.1)
+    (λ i. (sym t.0 i, t.1 i)) mine) (λ t. all j u t.1) (at_set vs id j w u e)
 
 -- the same where what holds of the others may rest on their being others
-pub each_other : {A : Type 0} (P : ℕ → A → Type 0) (vs : List A) (id : ℕ) (w : A) → P id w → ((j : ℕ) (u : A) → j ≢ id → get_elem? vs j ≡ maybe.some u → P j u) → Each P (set vs id w)
-each_other {A} P vs id w mine all j u e = ⊎_elim (λ (t : (j ≡ id) × (w ≡ u)). subst (λ (x : ℕ × A). P x.0 x.1) (λ i. (sym t.0 i, t.1 i)) mine) (λ t. all j u t.0 t.1) (at_set vs id j w u e)
+pub each_other : {A : Type 0} (P : ℕ → A → Type 0) (vs : List A) (id : ℕ) (w : A) → P id w
+    → ((j : ℕ) (u : A) → j ≢ id → get_elem? vs j ≡ maybe.some u → P j u) → Each P (set vs id w)
+each_other {A} P vs id w mine all j u e = ⊎_elim (λ (t : (j ≡ id) × (w ≡ u)). subst (λ (x : ℕ × A). P x.0 x.1)
+    (λ i. (sym t.0 i, t.1 i)) mine) (λ t. all j u t.0 t.1) (at_set vs id j w u e)
 
 pub each_one : {A : Type 0} (P : ℕ → A → Type 0) (v : A) → P 0 v → Each P (v ∷ [])
 each_one P v p zero u e = subst (P 0) (maybe.some-injective v u e) p
@@ -81,7 +86,8 @@ by_desk (Some d) f g = g d refl
 
 -- a holder of the DB lock has one desk
 pub at_desk : (P : Desk → Type 0) (o : Option Desk) (d d' : Desk) → o ≡ Some d → o ≡ Some d' → P d → P d'
-at_desk P o d d' e e' = subst (λ (z : Option Desk). elim z as (λ _. Type 0) [ None ↦ Unit {0} | Some y ↦ P y ]) (sym e ∙ e')
+at_desk P o d d' e e' = subst (λ (z : Option Desk). elim z as (λ _. Type 0) [ None ↦ Unit {0} | Some y ↦ P y ])
+    (sym e ∙ e')
 
 pub no_desk_in : {o : Option Desk} {d : Desk} → o ≡ Some d → o ≡ None → ⊥
 no_desk_in e n = cc
@@ -99,7 +105,8 @@ no_db v z = by v.locks.db z
     by None z = refl
     by (Some d) z = absurd (omega arith)
 
-pub views-here : {A : Type 0} (l : List A) (i : ℕ) (p q : A) → get_elem? l i ≡ maybe.some p → get_elem? (set l i q) i ≡ maybe.some q
+pub views-here : {A : Type 0} (l : List A) (i : ℕ) (p q : A) → get_elem? l i ≡ maybe.some p
+    → get_elem? (set l i q) i ≡ maybe.some q
 views-here [] i p q e = absurd (maybe.some-ne-none p (sym e))
 views-here (z ∷ l) zero p q e = refl
 views-here (z ∷ l) (suc i) p q e = views-here l i p q e

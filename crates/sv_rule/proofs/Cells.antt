@@ -38,7 +38,8 @@ no_held h e = cc
 pub db_none : (v : LaneView) → v.locks.db ≡ None → has_db v ≡ 0
 db_none v e = ap (λ (o : Option Desk). some_count o) e
 
-pub cell_one : (c : ℕ) (v : LaneView) (x : Option Cell) → v.locks.cell ≡ Some (record { number = c; found = x }) → has_cell c v ≡ 1
+pub cell_one : (c : ℕ) (v : LaneView) (x : Option Cell) → v.locks.cell ≡ Some (record { number = c; found = x })
+    → has_cell c v ≡ 1
 cell_one c v x e = ap (cell_count c) e ∙ same_one c c refl
 
 -- the cell that a lane has is the lock that it has
@@ -50,19 +51,23 @@ terms_less g h [] f = omega arith
 terms_less g h (x ∷ l) f = omega (arith, f x, terms_less g h l f)
 
 -- where one sum is at most another, term by term
-total_less : {A : Type 0} (g h : A → ℕ) (l : List A) (j : ℕ) (v : A) → get_elem? l j ≡ some v → ((x : A) → g x ≤ h x) → total g l + h v ≤ total h l + g v
+total_less : {A : Type 0} (g h : A → ℕ) (l : List A) (j : ℕ) (v : A) → get_elem? l j ≡ some v → ((x : A) → g x ≤ h x)
+    → total g l + h v ≤ total h l + g v
 total_less g h [] j v e f = absurd (mathlib.Core.Option.some-ne-none v (sym e))
-total_less g h (x ∷ l) zero v e f = let q = mathlib.Core.Option.some-injective x v e in omega (arith, ap g q, ap h q, terms_less g h l f)
+total_less g h (x ∷ l) zero v e f = let q = mathlib.Core.Option.some-injective x v e in
+    omega (arith, ap g q, ap h q, terms_less g h l f)
 total_less g h (x ∷ l) (suc j) v e f = omega (arith, f x, total_less g h l j v e f)
 
 module _ {S D C B : Type 0} (books : S → Books) (disk : D → Disk) (cell : C → Option Cell) (body : B → Body) where
-  pub takes_cell : (n id c : ℕ) (m : Me (Stored S D C B) LaneView) → c < 64 → m.0.seat.spent ≡ false → m.0.locks.cell ≡ None
+  pub takes_cell : (n id c : ℕ) (m : Me (Stored S D C B) LaneView) → c < 64 → m.0.seat.spent ≡ false
+      → m.0.locks.cell ≡ None
       → Allows (Kept books disk cell body) n id m (cell_word c) (λ y. either (eqb y 0) 1 y) (TookCell cell c m)
   takes_cell n id c m few alive bare s kept long me fits =
       let v = m.0 in
       let i = cell_word c in
       let r : ℕ = word s i in
-      exchanged r 0 1 (λ y. (w : LaneView) × (a : Act (Stored S D C B)) × Valid s.homes m.1 a × Kept books disk cell body (stepped s i y id m.1 w a) × TookCell cell c m r (w, carried_after m.1 a))
+      exchanged r 0 1 (λ y. (w : LaneView) × (a : Act (Stored S D C B)) × Valid s.homes m.1 a
+      × Kept books disk cell body (stepped s i y id m.1 w a) × TookCell cell c m r (w, carried_after m.1 a))
       (λ e. let own = kept.held.cells c few in
       let t = own.home e in
       let y = t.2 in
@@ -73,12 +78,16 @@ module _ {S D C B : Type 0} (books : S → Books) (disk : D → Disk) (cell : C 
       let f = accounts.fits in
       let bare_here : (k : ℕ) → has_cell k v ≡ 0 = λ k. ap (cell_count k) bare in
       let none_has : total (has_cell c) s.views ≡ 0 = own.bit ∙ e in
-      let no_fills : total (fills c) s.views ≡ 0 = omega (arith, terms_less (fills c) (has_cell c) s.views (fills_le c)) in
-      let says : (k : ℕ) (z : Option Cell) → Says kept.b s.views k z → Says kept.b (set s.views id w) k z = λ k z. says-step kept.b s.views id v w me k z (omega arith) (omega (arith, fills_le k v, bare_here k)) in (
+      let no_fills : total (fills c) s.views ≡ 0 = omega
+      (arith, terms_less (fills c) (has_cell c) s.views (fills_le c)) in
+      let says : (k : ℕ) (z : Option Cell) → Says kept.b s.views k z
+      → Says kept.b (set s.views id w) k z = λ k z. says-step kept.b s.views id v w me k z (omega arith)
+      (omega (arith, fills_le k v, bare_here k)) in (
         w,
         takes i (is.Cell y.0),
         t.1 ∙ ap (λ z. some (some z)) y.1,
-        by_cell books disk cell body s kept id v w me c 1 homes kept.b [] few (length-set s.homes i none) (λ k ne. set_else s.homes i k none ne)
+        by_cell books disk cell body s kept id v w me c 1 homes kept.b [] few (length-set s.homes i none)
+            (λ k ne. set_else s.homes i k none ne)
             alive refl refl refl refl refl refl refl refl refl refl (λ z. z) (λ z g. omega arith)
             (inr refl) (stands-same kept.b)
             (turns-same kept.b kept.work kept.start kept.d (number s) s.views id v me alive kept.in_hand f.lawful)
@@ -90,7 +99,8 @@ module _ {S D C B : Type 0} (books : S → Books) (disk : D → Disk) (cell : C 
                 left = f.left;
                 mine = f.mine;
                 bodies = f.bodies;
-                rows = reads-fit kept.b (total (dues c) s.views) (total (fills c) s.views) c v.locks.db v.known.bodies v.known.seen x v.known.rows no_fills y.2 f.bodies f.seen f.rows;
+                rows = reads-fit kept.b (total (dues c) s.views) (total (fills c) s.views) c v.locks.db v.known.bodies
+                    v.known.seen x v.known.rows no_fills y.2 f.bodies f.seen f.rows;
                 reads = f.reads;
                 seen = f.seen;
                 removed = f.removed;
@@ -104,16 +114,29 @@ module _ {S D C B : Type 0} (books : S → Books) (disk : D → Disk) (cell : C 
             (owners-same books disk cell body s kept id v w me refl)
             (λ k ne. same-else k c (λ q. ne (sym q)) ∙ sym (bare_here k))
             (λ k z ne. says k z)
-            (subst (λ (z : Box (Stored S D C B)). Lock (Cells books disk cell body kept.b (set s.views id w) c) (has_cell c) 1 z (set s.views id w)) (sym (set_here s.homes i none (omega (arith, kept.home.seats.homes, few))))
-            (lock-took (Cells books disk cell body kept.b s.views c) (Cells books disk cell body kept.b (set s.views id w) c) (has_cell c) r (home s i) s.views id v w me e (same_one c c refl) own))
-            (λ h z. subst (IsLent kept.b (set s.views id w)) (held_is (record { number = c; found = x }) h z) (record { within = few; says = says c x y.2 }))
-            (λ j u h ne at_u z q. absurd (omega (arith, term_le (has_cell c) s.views j u at_u, cell_at c u h z, same_one c h.number q, none_has))),
+            (subst (λ (z : Box (Stored S D C B)). Lock (Cells books disk cell body kept.b (set s.views id w) c)
+            (has_cell c) 1 z (set s.views id w)) (sym
+            (set_here s.homes i none (omega (arith, kept.home.seats.homes, few))))
+            (lock-took (Cells books disk cell body kept.b s.views c)
+            (Cells books disk cell body kept.b (set s.views id w) c) (has_cell c) r (home s i) s.views id v w me e
+            (same_one c c refl) own))
+            (λ h z. subst (IsLent kept.b (set s.views id w)) (held_is (record { number = c; found = x }) h z)
+            (record { within = few; says = says c x y.2 }))
+            (λ j u h ne at_u z q. absurd (omega (
+              arith,
+              term_le (has_cell c) s.views j u at_u,
+              cell_at c u h z,
+              same_one c h.number q,
+              none_has,
+            ))),
         record {
           free = λ _. (
             y.0,
             refl,
-            finds-books kept.b kept.work s.views id v me kept.home.desks kept.home.db.one kept.home.db.bit c x no_fills y.2,
-            finds-body kept.b s.views v f.lawful f.bodies (ref-live s kept.b.supers kept.ledger.places id v me) (λ g near. (kept.fresh id v me g near).floor) c x no_fills y.2,
+            finds-books kept.b kept.work s.views id v me kept.home.desks kept.home.db.one kept.home.db.bit c x
+                no_fills y.2,
+            finds-body kept.b s.views v f.lawful f.bodies (ref-live s kept.b.supers kept.ledger.places id v me)
+                (λ g near. (kept.fresh id v me g near).floor) c x no_fills y.2,
           );
           busy = λ ne. absurd (ne e);
         },
@@ -122,13 +145,17 @@ module _ {S D C B : Type 0} (books : S → Books) (disk : D → Disk) (cell : C 
         v,
         keeps,
         tt,
-        subst (λ (z : List LaneView). Kept books disk cell body record { words = set s.words i r; homes = s.homes; views = z }) (sym (set_again s.views id v me))
-            (subst (λ (z : List ℕ). Kept books disk cell body record { words = z; homes = s.homes; views = s.views }) (sym (lib.Seq.set-get_or s.words i 0)) kept),
+        subst (λ (z : List LaneView). Kept books disk cell
+            body record { words = set s.words i r; homes = s.homes; views = z }) (sym (set_again s.views id v me))
+            (subst (λ (z : List ℕ). Kept books disk cell body record { words = z; homes = s.homes; views = s.views })
+            (sym (lib.Seq.set-get_or s.words i 0)) kept),
         record { free = λ e. absurd (ne e); busy = λ _. refl },
       ))
 
-  gives_own : (n id c f cut : ℕ) (v : LaneView) (more : List (ℕ × Stored S D C B)) (y : C) → c < 64 → MayGiveCell v c (cell y) f cut
-      → let m : Me (Stored S D C B) LaneView = (v, (cell_word c, is.Cell y) ∷ more) in Allows (Kept books disk cell body) n id m (cell_word c) (λ _. 0) (GaveCell f cut m)
+  gives_own : (n id c f cut : ℕ) (v : LaneView) (more : List (ℕ × Stored S D C B)) (y : C) → c < 64
+      → MayGiveCell v c (cell y) f cut
+      → let m : Me (Stored S D C B) LaneView = (v, (cell_word c, is.Cell y) ∷ more) in
+      Allows (Kept books disk cell body) n id m (cell_word c) (λ _. 0) (GaveCell f cut m)
   gives_own n id c f cut v more y few may s kept long me fits =
       let i = cell_word c in
       let x = cell y in
@@ -140,13 +167,24 @@ module _ {S D C B : Type 0} (books : S → Books) (disk : D → Disk) (cell : C 
       let own = kept.held.cells c few in
       let one : has_cell c v ≡ 1 = cell_one c v x may.cell in
       let lent = kept.held.lent id v me (record { number = c; found = x }) may.cell in
-      let no_fill_here : (k : ℕ) → fills k v ≡ 0 = λ k. ap (λ (o : Option Desk). fill_count k (option_map (λ (d : Desk). d.due) o) v.locks.cell) may.db in
-      let no_fills : total (fills c) s.views ≡ 0 = omega (arith, total_less (fills c) (has_cell c) s.views id v me (fills_le c), no_fill_here c, one, own.bit, own.one) in
-      let says : (k : ℕ) (z : Option Cell) → Says kept.b s.views k z → Says kept.b ws k z = λ k z. says-step kept.b s.views id v w me k z (omega arith) (omega (arith, fills_le k w, no_fill_here k)) in (
+      let no_fill_here : (k : ℕ) → fills k v ≡ 0 = λ k. ap
+      (λ (o : Option Desk). fill_count k (option_map (λ (d : Desk). d.due) o) v.locks.cell) may.db in
+      let no_fills : total (fills c) s.views ≡ 0 = omega (
+        arith,
+        total_less (fills c) (has_cell c) s.views id v me (fills_le c),
+        no_fill_here c,
+        one,
+        own.bit,
+        own.one,
+      ) in
+      let says : (k : ℕ) (z : Option Cell) → Says kept.b s.views k z
+      → Says kept.b ws k z = λ k z. says-step kept.b s.views id v w me k z (omega arith)
+      (omega (arith, fills_le k w, no_fill_here k)) in (
         w,
         gives,
         tt,
-        by_cell books disk cell body s kept id v w me c 0 homes kept.b [] few (length-set s.homes i (some (is.Cell y))) (λ k ne. set_else s.homes i k (some (is.Cell y)) ne)
+        by_cell books disk cell body s kept id v w me c 0 homes kept.b [] few
+            (length-set s.homes i (some (is.Cell y))) (λ k ne. set_else s.homes i k (some (is.Cell y)) ne)
             may.alive refl refl refl refl refl refl refl refl refl refl (λ z. z) (λ z g. omega arith)
             (inr refl) (stands-same kept.b)
             (turns-same kept.b kept.work kept.start kept.d (number s) s.views id v me may.alive kept.in_hand t.lawful)
@@ -160,7 +198,9 @@ module _ {S D C B : Type 0} (books : S → Books) (disk : D → Disk) (cell : C 
                 bodies = t.bodies;
                 rows = t.rows;
                 reads = t.reads;
-                seen = raised_le v.known.seen f cut (λ k. length (of_family k kept.b.journal)) (cut_le kept.b v (total (dues c) s.views) (total (fills c) s.views) c x f cut t no_fills lent.says may.cut_is) t.seen;
+                seen = raised_le v.known.seen f cut (λ k. length (of_family k kept.b.journal))
+                    (cut_le kept.b v (total (dues c) s.views) (total (fills c) s.views) c x f cut t no_fills lent.says
+                    may.cut_is) t.seen;
                 removed = t.removed;
                 ended = t.ended;
                 round = t.round;
@@ -172,13 +212,27 @@ module _ {S D C B : Type 0} (books : S → Books) (disk : D → Disk) (cell : C 
             (owners-same books disk cell body s kept id v w me refl)
             (λ k ne. sym (cell_at k v (record { number = c; found = x }) may.cell ∙ same-else k c (λ q. ne (sym q))))
             (λ k z ne. says k z)
-            (subst (λ (z : Box (Stored S D C B)). Lock (Cells books disk cell body kept.b ws c) (has_cell c) 0 z ws) (sym (set_here s.homes i (some (is.Cell y)) (omega (arith, kept.home.seats.homes, few))))
-            (lock-gave (Cells books disk cell body kept.b s.views c) (Cells books disk cell body kept.b ws c) (has_cell c) (word s i) (home s i) s.views id v w (is.Cell y) me one refl (y, refl, says c x lent.says) own))
+            (subst (λ (z : Box (Stored S D C B)). Lock (Cells books disk cell body kept.b ws c) (has_cell c) 0 z ws)
+            (sym (set_here s.homes i (some (is.Cell y)) (omega (arith, kept.home.seats.homes, few))))
+            (lock-gave (Cells books disk cell body kept.b s.views c) (Cells books disk cell body kept.b ws c)
+            (has_cell c) (word s i) (home s i) s.views id v w (is.Cell y) me one refl
+            (y, refl, says c x lent.says) own))
             (λ h z. absurd (no_held h z))
-            (λ j u h ne at_u z q. absurd (omega (arith, terms_le (has_cell c) s.views id j v u ne me at_u, cell_at c u h z, same_one c h.number q, one, own.bit, own.one))),
+            (λ j u h ne at_u z q. absurd (omega (
+              arith,
+              terms_le (has_cell c) s.views id j v u ne me at_u,
+              cell_at c u h z,
+              same_one c h.number q,
+              one,
+              own.bit,
+              own.one,
+            ))),
         refl,
       )
 
-  pub gives_cell : (n id c f cut : ℕ) (m : Me (Stored S D C B) LaneView) (rest : List (ℕ × Stored S D C B)) (y : C) → c < 64 → MayGiveCell m.0 c (cell y) f cut → m.1 ≡ (cell_word c, is.Cell y) ∷ rest
+  pub gives_cell : (n id c f cut : ℕ) (m : Me (Stored S D C B) LaneView) (rest : List (ℕ × Stored S D C B)) (y : C)
+      → c < 64 → MayGiveCell m.0 c (cell y) f cut → m.1 ≡ (cell_word c, is.Cell y) ∷ rest
       → Allows (Kept books disk cell body) n id m (cell_word c) (λ _. 0) (GaveCell f cut m)
-  gives_cell n id c f cut m rest y few may e = subst (λ (z : List (ℕ × Stored S D C B)). Allows (Kept books disk cell body) n id (m.0, z) (cell_word c) (λ _. 0) (GaveCell f cut (m.0, z))) (sym e) (gives_own n id c f cut m.0 rest y few may)
+  gives_cell n id c f cut m rest y few may e = subst (λ (z : List (ℕ × Stored S D C B)). Allows
+      (Kept books disk cell body) n id (m.0, z) (cell_word c) (λ _. 0) (GaveCell f cut (m.0, z))) (sym e)
+      (gives_own n id c f cut m.0 rest y few may)

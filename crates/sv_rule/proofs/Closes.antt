@@ -21,7 +21,9 @@ use Rattle.sv_rule.proofs.Checks.{by_bool}
 use Rattle.sv_rule.proofs.SeatJoins.{alive_one, count_all, is_alive}
 use Rattle.sv_rule.proofs.Sums.{term_le, terms_le, total-zero}
 
-module _ {S D C B : Type 0} (books : S → Books) (disk : D → Disk) (cell : C → Option Cell) (body : B → Body) (s : State (Stored S D C B) LaneView) (kept : Kept books disk cell body s) (id : ℕ) (v : LaneView) (me : get_elem? s.views id ≡ some v) (last : IsLast v) where
+module _ {S D C B : Type 0} (books : S → Books) (disk : D → Disk) (cell : C → Option Cell) (body : B → Body)
+    (s : State (Stored S D C B) LaneView) (kept : Kept books disk cell body s) (id : ℕ) (v : LaneView)
+    (me : get_elem? s.views id ≡ some v) (last : IsLast v) where
   others_spent : (j : ℕ) (u : LaneView) → j ≢ id → get_elem? s.views j ≡ some u → u.seat.spent ≡ true
   others_spent j u n e = by_bool u.seat.spent (λ is. is)
       (λ is. absurd (omega (
@@ -39,7 +41,8 @@ module _ {S D C B : Type 0} (books : S → Books) (disk : D → Disk) (cell : C 
   -- no one has a lock
   no_locks_out : (j : ℕ) (u : LaneView) → get_elem? s.views j ≡ some u → u.locks ≡ no_locks
   no_locks_out j u e = dite (ℕ_discrete j id)
-      (λ is. let same : u ≡ v = some-injective u v (sym e ∙ ap (get_elem? s.views) is ∙ me) in ap (λ (y : LaneView). y.locks) same ∙ last.locks)
+      (λ is. let same : u ≡ v = some-injective u v (sym e ∙ ap (get_elem? s.views) is ∙ me) in
+      ap (λ (y : LaneView). y.locks) same ∙ last.locks)
       (λ n. kept.home.seats.spent j u e (others_spent j u n e))
 
   none_has : (g : LaneView → ℕ) → ((u : LaneView) → u.locks ≡ no_locks → g u ≡ 0) → total g s.views ≡ 0
@@ -47,15 +50,18 @@ module _ {S D C B : Type 0} (books : S → Books) (disk : D → Disk) (cell : C 
 
   pub state_home : (st : S) × (home s 0 ≡ some (some (is.State st))) × (books st ≡ kept.b) × (kept.work ≡ idle)
   state_home =
-      let h = kept.home.db.home (sym kept.home.db.bit ∙ none_has has_db (λ u e. ap (λ (l : Locks). some_count l.db) e)) in
+      let h = kept.home.db.home (sym kept.home.db.bit ∙ none_has has_db
+      (λ u e. ap (λ (l : Locks). some_count l.db) e)) in
       (h.2.0, h.1 ∙ ap (λ z. some (some z)) h.2.1, h.2.2, h.2.3)
 
   pub dir_home : (y : D) × (home s 1 ≡ some (some (is.Dir y))) × (disk y ≡ kept.d)
   dir_home =
-      let h = kept.home.dir.home (sym kept.home.dir.bit ∙ none_has has_dir (λ u e. ap (λ (l : Locks). some_count l.dir) e)) in
+      let h = kept.home.dir.home (sym kept.home.dir.bit
+      ∙ none_has has_dir (λ u e. ap (λ (l : Locks). some_count l.dir) e)) in
       (h.2.0, h.1 ∙ ap (λ z. some (some z)) h.2.1, h.2.2)
 
-  pub cell_home : (c : ℕ) → c < 64 → (y : C) × (home s (cell_word c) ≡ some (some (is.Cell y))) × Says kept.b s.views c (cell y)
+  pub cell_home : (c : ℕ) → c < 64 → (y : C) × (home s (cell_word c) ≡ some (some (is.Cell y)))
+      × Says kept.b s.views c (cell y)
   cell_home c near =
       let o = kept.held.cells c near in
       let h = o.home (sym o.bit ∙ none_has (has_cell c) (λ u e. ap (λ (l : Locks). cell_count c l.cell) e)) in

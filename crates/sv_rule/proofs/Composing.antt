@@ -16,14 +16,19 @@ use Rattle.sv_rule.proofs.LaterBooks.{in-more}
 use Rattle.sv_rule.proofs.Sums.{same-self}
 
 mark-grabs : (n : ℕ) (t : Task) → In (taken_mark n) (marks_of t.job) → 1 ≤ grabs n t
-mark-grabs n t h = omega (arith, total_at (λ (k : Mark). same n k.number) (marks_of t.job) h.at (taken_mark n) h.is, same-self n)
+mark-grabs n t h = omega (
+  arith,
+  total_at (λ (k : Mark). same n k.number) (marks_of t.job) h.at (taken_mark n) h.is,
+  same-self n,
+)
 
 append_assoc : {A : Type 0} (a b c : List A) → (a ++ b) ++ c ≡ a ++ (b ++ c)
 append_assoc [] b c = refl
 append_assoc (x ∷ a) b c = ap (λ l. x ∷ l) (append_assoc a b c)
 
 -- the first lists no new number
-pub turns-on : (l : ℕ) (a b c : Books) (t u w : Task) (m n : List Write) → Turns l a t b u m → Turns l b u c w n → ((k : ℕ) → In k u.listed → In k t.listed) → Turns l a t c w (m ++ n)
+pub turns-on : (l : ℕ) (a b c : Books) (t u w : Task) (m n : List Write) → Turns l a t b u m → Turns l b u c w n
+    → ((k : ℕ) → In k u.listed → In k t.listed) → Turns l a t c w (m ++ n)
 turns-on l a b c t u w m n h k lists =
     let p = h.counts in
     let q = k.counts in
@@ -47,12 +52,17 @@ turns-on l a b c t u w m n h k lists =
             (λ (x : IsOutput u o). ⊎_elim
             (λ (y : IsOutput t x.was). inl (record { was = y.was; is = y.is; same = x.same ∙ y.same }))
             (λ (y : IsFresh a b x.was). inr (record {
-              covered = subst (λ z. In z c.metas) (sym x.same) (in-more b.metas c.metas q.later.metas x.was.meta y.covered);
+              covered = subst (λ z. In z c.metas) (sym x.same)
+                  (in-more b.metas c.metas q.later.metas x.was.meta y.covered);
               next = omega (arith, y.next, ap (λ z. z.number) x.same);
               unwritten = unwritten o x.was e x.is y.unwritten o.written refl;
             }))
             (p.output x.was x.is))
-            (λ (x : IsFresh b c o). inr (record { covered = x.covered; next = omega (arith, x.next, p.later.next); unwritten = x.unwritten }))
+            (λ (x : IsFresh b c o). inr (record {
+              covered = x.covered;
+              next = omega (arith, x.next, p.later.next);
+              unwritten = x.unwritten;
+            }))
             (q.output o e);
         gone = λ i g. ⊎_elim (λ y. inl y) (λ y. inr (mark-grabs i t y)) (gone i g);
         begins = λ none_had one i ne. ⊎_elim
@@ -64,15 +74,19 @@ turns-on l a b c t u w m n h k lists =
         listed = λ i x e. ⊎_elim (λ (y : In x u.listed). inl (lists x y)) (λ y. inr y) (q.listed i x e);
       };
       written = λ o e wr. h.written o (k.written o e wr) wr;
-      live = λ i g. ⊎_elim (h.live i) (λ (y : IsWritten u i). inr (record { it = y.it; is = h.written y.it y.is y.written; number = y.number; written = y.written })) (k.live i g);
+      live = λ i g. ⊎_elim (h.live i) (λ (y : IsWritten u i). inr
+          (record { it = y.it; is = h.written y.it y.is y.written; number = y.number; written = y.written }))
+          (k.live i g);
       gone = gone;
       marks = λ x has tk. h.marks x (k.marks x has tk) tk;
     }
   where
-    gone : (i : ℕ) → 1 ≤ having is_gone i c.files.numbers → (1 ≤ having is_gone i a.files.numbers) ⊎ In (taken_mark i) (marks_of t.job)
+    gone : (i : ℕ) → 1 ≤ having is_gone i c.files.numbers → (1 ≤ having is_gone i a.files.numbers)
+        ⊎ In (taken_mark i) (marks_of t.job)
     gone i g = ⊎_elim (λ y. h.gone i y) (λ y. inr (h.marks (taken_mark i) y refl)) (k.gone i g)
 
-    unwritten : (o was : Output) → w.output ≡ Some o → u.output ≡ Some was → was.written ≡ false → (q : Bool) → o.written ≡ q → o.written ≡ false
+    unwritten : (o was : Output) → w.output ≡ Some o → u.output ≡ Some was → was.written ≡ false → (q : Bool)
+        → o.written ≡ q → o.written ≡ false
     unwritten o was e is none_was false z = z
     unwritten o was e is none_was true z = ap (λ y. y.written) (some_is (sym (k.written o e z) ∙ is)) ∙ none_was
 

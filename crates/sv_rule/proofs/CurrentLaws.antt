@@ -42,9 +42,11 @@ pack_big {supers} {f} {p} h = let z = (serial_le supers f (p / 256) (pack_serial
 pub one_family : {supers : List SuperVersion} {f g t : ℕ} → IsSerialOf supers f t → IsSerialOf supers g t → f ≡ g
 one_family h k = sym h.family ∙ (ap (λ (z : SuperVersion). z.descriptor.family) (some_is (sym h.is ∙ k.is)) ∙ k.family)
 
-pub one_pack : (supers : List SuperVersion) (f g p q : ℕ) → IsPackOf supers f p → IsPackOf supers g q → p / 256 ≡ q / 256 → p ≡ q
+pub one_pack : (supers : List SuperVersion) (f g p q : ℕ) → IsPackOf supers f p → IsPackOf supers g q
+    → p / 256 ≡ q / 256 → p ≡ q
 one_pack supers f g p q h k e =
-    let same_place : h.sv.place ≡ k.sv.place = ap (λ (z : SuperVersion). z.place) (some_is (sym h.is ∙ (ap (entry supers) e ∙ k.is))) in
+    let same_place : h.sv.place ≡ k.sv.place = ap (λ (z : SuperVersion). z.place)
+    (some_is (sym h.is ∙ (ap (entry supers) e ∙ k.is))) in
     omega (arith, h.place, k.place)
 
 -- ---- currents
@@ -91,10 +93,12 @@ has-top b lawful f big = by_top (slice_get b.tops f) refl
 
 module _ (b : Books) (lawful : Lawful b) (f : ℕ) where
   -- the current's pack, where the family has one
-  pub current_at : (t : HasTop b f) → current_of b f ≡ pack t.serial (lawful.tops f t.serial t.family t.top t.family_at t.top_at t.is).it.place
+  pub current_at : (t : HasTop b f) → current_of b f ≡ pack t.serial
+      (lawful.tops f t.serial t.family t.top t.family_at t.top_at t.is).it.place
   current_at t =
       let k = lawful.tops f t.serial t.family t.top t.family_at t.top_at t.is in
-      ap (λ o. pack_of_serial b.supers (current_serial o)) t.top_at ∙ (ap (pack_of_serial b.supers) t.is ∙ ap (pack_at t.serial) k.at)
+      ap (λ o. pack_of_serial b.supers (current_serial o)) t.top_at
+      ∙ (ap (pack_of_serial b.supers) t.is ∙ ap (pack_at t.serial) k.at)
 
   abbrev top_of : (t : HasTop b f) → IsTop b.journal b.supers f t.family t.top.last t.serial
   top_of t = lawful.tops f t.serial t.family t.top t.family_at t.top_at t.is
@@ -123,7 +127,13 @@ module _ (b : Books) (lawful : Lawful b) (f : ℕ) where
       let t = has-top b lawful f big in
       let k = top_of t in
       let c = current_is big in
-      record { sv = k.it; is = ap (entry b.supers) (current_serial_is t) ∙ k.at; live = k.live; place_is = ap (λ (z : SuperVersion). z.place) (some_is (sym k.at ∙ (ap (entry b.supers) (sym (current_serial_is t)) ∙ c.is))) ∙ c.place }
+      record {
+        sv = k.it;
+        is = ap (entry b.supers) (current_serial_is t) ∙ k.at;
+        live = k.live;
+        place_is = ap (λ (z : SuperVersion). z.place)
+            (some_is (sym k.at ∙ (ap (entry b.supers) (sym (current_serial_is t)) ∙ c.is))) ∙ c.place;
+      }
 
   -- it is the newest of the family
   pub current_newest : 256 ≤ current_of b f → (t : ℕ) → IsSerialOf b.supers f t → t ≤ current_of b f / 256

@@ -37,9 +37,12 @@ value-padded n fits = value-zeros (6 - length (decimal n)) (decimal n) ∙ digit
 pub file_name-injective : (m n : ℕ) → m < 2 ^ 64 → n < 2 ^ 64 → file_name m ≡ file_name n → m ≡ n
 unfolding file_name
 file_name-injective m n small fits e =
-    sym (value-padded m small) ∙ ap (digits_value 10) (sym (stem-append (padded 6 m)) ∙ ap stem e ∙ stem-append (padded 6 n)) ∙ value-padded n fits
+    sym (value-padded m small) ∙ ap (digits_value 10) (sym (stem-append (padded 6 m)) ∙ ap stem e
+    ∙ stem-append (padded 6 n)) ∙ value-padded n fits
 
-pub get-with_file : (name : List ℕ) (content : Option (List ℕ)) (files : Files) (q : List ℕ) → finite.get (with_file name content files) q ≡ cond (eq_by_cmp (slice_cmp nat_cmp) q name) content (finite.get files q)
+pub get-with_file : (name : List ℕ) (content : Option (List ℕ)) (files : Files) (q : List ℕ)
+    → finite.get (with_file name content files) q ≡ cond (eq_by_cmp (slice_cmp nat_cmp) q name) content
+    (finite.get files q)
 get-with_file name None files q = finite.get-remove nat_list_cmp_total files name q
 get-with_file name (Some bytes) files q = finite.get-insert nat_list_cmp_total files name bytes q
 
@@ -55,10 +58,14 @@ name_same : (p : List ℕ) → eq_by_cmp (slice_cmp nat_cmp) p p ≡ true
 name_same p = (eq_by_cmp_equiv nat_list_cmp_total).refl p
 
 -- the file of a number whose file was written or removed, and that of another number
-pub file-here : (n : ℕ) (content : Option (List ℕ)) (files : Files) → file_of n (with_file (file_name n) content files) ≡ content
-file-here n content files = get-with_file (file_name n) content files (file_name n) ∙ ap (λ b. cond b content (file_of n files)) (name_same (file_name n))
+pub file-here : (n : ℕ) (content : Option (List ℕ)) (files : Files)
+    → file_of n (with_file (file_name n) content files) ≡ content
+file-here n content files = get-with_file (file_name n) content files (file_name n)
+    ∙ ap (λ b. cond b content (file_of n files)) (name_same (file_name n))
 
-pub file-else : (m n : ℕ) (content : Option (List ℕ)) (files : Files) → m < 2 ^ 64 → n < 2 ^ 64 → m ≢ n → file_of m (with_file (file_name n) content files) ≡ file_of m files
+pub file-else : (m n : ℕ) (content : Option (List ℕ)) (files : Files) → m < 2 ^ 64 → n < 2 ^ 64 → m ≢ n
+    → file_of m (with_file (file_name n) content files) ≡ file_of m files
 file-else m n content files small fits ne =
     get-with_file (file_name n) content files (file_name m)
-    ∙ ap (λ b. cond b content (file_of m files)) (name_apart (file_name m) (file_name n) (λ e. ne (file_name-injective m n small fits e)))
+    ∙ ap (λ b. cond b content (file_of m files)) (name_apart (file_name m) (file_name n)
+    (λ e. ne (file_name-injective m n small fits e)))

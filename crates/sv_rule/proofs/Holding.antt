@@ -17,17 +17,28 @@ length-replicate (suc n) x = ap suc (length-replicate n x)
 length-upto : (count : ℕ → ℕ) (tag : ℕ → Holder) (n : ℕ) → length (upto count tag n) ≡ below count n
 unfolding below
 length-upto count tag zero = refl
-length-upto count tag (suc n) = omega (arith, length-append (upto count tag n) (replicate (count n) (tag n)), length-upto count tag n, length-replicate (count n) (tag n))
+length-upto count tag (suc n) = omega (
+  arith,
+  length-append (upto count tag n) (replicate (count n) (tag n)),
+  length-upto count tag n,
+  length-replicate (count n) (tag n),
+)
 
 length-over : {A : Type 0} (g : A → ℕ) (tag : ℕ → Holder) (k : ℕ) (l : List A) → length (over g tag k l) ≡ total g l
 length-over g tag k [] = refl
-length-over g tag k (x ∷ xs) = omega (arith, length-append (replicate (g x) (tag k)) (over g tag (suc k) xs), length-replicate (g x) (tag k), length-over g tag (suc k) xs)
+length-over g tag k (x ∷ xs) = omega (
+  arith,
+  length-append (replicate (g x) (tag k)) (over g tag (suc k) xs),
+  length-replicate (g x) (tag k),
+  length-over g tag (suc k) xs,
+)
 
 length-views : (p j : ℕ) (vs : List LaneView) → length (in_views p j vs) ≡ total (holds p) vs
 length-views p j [] = refl
 length-views p j (v ∷ vs) = omega (
   arith,
-  length-append (over (names p) (by_slot j) 0 v.slots.slot ++ over (same p) (by_hand j) 0 v.hand) (in_views p (suc j) vs),
+  length-append (over (names p) (by_slot j) 0 v.slots.slot ++ over (same p) (by_hand j) 0 v.hand)
+      (in_views p (suc j) vs),
   length-append (over (names p) (by_slot j) 0 v.slots.slot) (over (same p) (by_hand j) 0 v.hand),
   length-over (names p) (by_slot j) 0 v.slots.slot,
   length-over (same p) (by_hand j) 0 v.hand,
@@ -37,7 +48,8 @@ length-views p j (v ∷ vs) = omega (
 pub length-holders : {S : Type 0} (s : State S LaneView) (p : ℕ) → length (holders_of s p) ≡ holders s p
 length-holders s p = omega (
   arith,
-  length-append (upto (λ f. same p (number s f)) by_number 16) (upto (λ i. same p (slot s i)) by_word 512 ++ in_views p 0 s.views),
+  length-append (upto (λ f. same p (number s f)) by_number 16)
+      (upto (λ i. same p (slot s i)) by_word 512 ++ in_views p 0 s.views),
   length-append (upto (λ i. same p (slot s i)) by_word 512) (in_views p 0 s.views),
   length-upto (λ f. same p (number s f)) by_number 16,
   length-upto (λ i. same p (slot s i)) by_word 512,
@@ -45,7 +57,8 @@ length-holders s p = omega (
 )
 
 -- a reference word counts them
-pub counts-holders : {S : Type 0} (s : State S LaneView) (supers : List SuperVersion) → Places supers (reference s) (holders s) (owers s) → (t k : ℕ) → k < 256 → LiveAt supers t k
+pub counts-holders : {S : Type 0} (s : State S LaneView) (supers : List SuperVersion)
+    → Places supers (reference s) (holders s) (owers s) → (t k : ℕ) → k < 256 → LiveAt supers t k
     → reference s k ≡ t * 4294967296 + length (holders_of s (pack t k))
 counts-holders s supers places t k near live = ⊎_elim
     (λ (c : Vacant supers (holders s) (owers s) k (reference s k)). absurd (c.dead t live))

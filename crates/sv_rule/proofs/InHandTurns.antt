@@ -32,7 +32,8 @@ use Rattle.sv_rule.proofs.Statuses.{gone-registered, registered-has, registered-
 use Rattle.sv_rule.proofs.Stepping.{view_le, view_same}
 use Rattle.sv_rule.proofs.Sums.{cond-else, cond-is, same_one, terms_le, total-set, total_none}
 
-push_or : {A : Type 0} (a m : List A) (i : ℕ) (x : A) → slice_get (a ++ m) i ≡ Some x → (slice_get a i ≡ Some x) ⊎ In x m
+push_or : {A : Type 0} (a m : List A) (i : ℕ) (x : A) → slice_get (a ++ m) i ≡ Some x → (slice_get a i ≡ Some x)
+    ⊎ In x m
 push_or [] m i x e = inr (record { at = i; is = e })
 push_or (y ∷ a) m zero x e = inl e
 push_or (y ∷ a) m (suc i) x e = push_or a m i x e
@@ -58,26 +59,38 @@ output_has n (Some x) h = (x, refl, same_is n x.meta.number (omega arith))
 
 module _ (a b : Books) (l : ℕ) (t u : Task) (more : List Write) (c : OwnTurns l a t b u more) (before : Lawful a) where
   -- A number that is Live or Obsolete, and no output, stays so while no job is under way.
-  there-stays : (n : ℕ) → has_output n t ≤ having is_pending n a.files.numbers → having is_grabbed n b.files.numbers ≡ 0 → grabs n t ≤ having is_grabbed n a.files.numbers → IsThere a n → IsThere b n
+  there-stays : (n : ℕ) → has_output n t ≤ having is_pending n a.files.numbers
+      → having is_grabbed n b.files.numbers ≡ 0 → grabs n t ≤ having is_grabbed n a.files.numbers → IsThere a n
+      → IsThere b n
   there-stays n mine still own there =
       let s = statuses n a.files.numbers in
       let z = statuses n b.files.numbers in
       let once = before.numbers.once n in
-      let one : 1 ≤ registered n b.files.numbers = registered-stays a.files.numbers b.files.numbers c.later.numbers n (omega arith) in
-      let not_gone : (1 ≤ having is_gone n b.files.numbers) → ⊥ = λ h. ⊎_elim (λ (g : 1 ≤ having is_gone n a.files.numbers). omega arith) (λ (g : 1 ≤ grabs n t). omega arith) (c.gone n h) in
+      let one : 1 ≤ registered n b.files.numbers = registered-stays a.files.numbers b.files.numbers c.later.numbers n
+      (omega arith) in
+      let not_gone : (1 ≤ having is_gone n b.files.numbers)
+      → ⊥ = λ h. ⊎_elim (λ (g : 1 ≤ having is_gone n a.files.numbers). omega arith)
+      (λ (g : 1 ≤ grabs n t). omega arith) (c.gone n h) in
       let not_pending : (1 ≤ having is_pending n b.files.numbers) → ⊥ = λ h.
       let e = c.outputs n in
       let new : 1 ≤ has_output n u = omega arith in
       let o = output_has n u.output new in
       ⊎_elim
-      (λ (w : IsOutput t o.0). omega (arith, ap (output_count n) w.is, same_one n w.was.meta.number (ap (λ m. m.number) (sym w.same) ∙ sym o.2)))
-      (λ (w : IsFresh a b o.0). let r = registered-has n a.files.numbers (omega arith) in omega (arith, before.numbers.below r.0 r.1 r.2, r.3, o.2, w.next))
+      (λ (w : IsOutput t o.0). omega (
+        arith,
+        ap (output_count n) w.is,
+        same_one n w.was.meta.number (ap (λ m. m.number) (sym w.same) ∙ sym o.2),
+      ))
+      (λ (w : IsFresh a b o.0). let r = registered-has n a.files.numbers (omega arith) in
+      omega (arith, before.numbers.below r.0 r.1 r.2, r.3, o.2, w.next))
       (c.output o.0 o.1) in
       grind (arith, not_gone, not_pending)
 
-module _ (a b : Books) (work work' : Work) (start : Start) (disk disk' : Disk) (number number' : ℕ → ℕ) (vs : List LaneView) (id : ℕ) (v w : LaneView) (l : ℕ) (more : List Write)
+module _ (a b : Books) (work work' : Work) (start : Start) (disk disk' : Disk) (number number' : ℕ → ℕ)
+    (vs : List LaneView) (id : ℕ) (v w : LaneView) (l : ℕ) (more : List Write)
     (me : get_elem? vs id ≡ some v) (before : Lawful a) (apart : (k : ℕ) → total (lanes k) vs ≤ 1)
-    (alive : v.seat.spent ≡ false) (lane : v.known.lane ≡ l) (spent : w.seat.spent ≡ v.seat.spent) (same_lane : w.known.lane ≡ v.known.lane) (joined : w.joined ≡ v.joined)
+    (alive : v.seat.spent ≡ false) (lane : v.known.lane ≡ l) (spent : w.seat.spent ≡ v.seat.spent)
+    (same_lane : w.known.lane ≡ v.known.lane) (joined : w.joined ≡ v.joined)
     (c : OwnTurns l a v.known.task b w.known.task more) (held : WorkHeld a work start disk number vs) where
   abbrev t : Task
   t = v.known.task
@@ -93,39 +106,71 @@ module _ (a b : Books) (work work' : Work) (start : Start) (disk disk' : Disk) (
 
   -- the lane of another view is another one
   pub apart-view : (j : ℕ) (x : LaneView) → j ≢ id → get_elem? vs j ≡ some x → x.seat.spent ≡ false → x.known.lane ≢ l
-  apart-view j x n at_x e is = absurd (omega (arith, terms_le (lanes l) vs id j v x n me at_x, alive_lane v.seat.spent v.known l alive lane, alive_lane x.seat.spent x.known l e is, apart l))
+  apart-view j x n at_x e is = absurd (omega (
+    arith,
+    terms_le (lanes l) vs id j v x n me at_x,
+    alive_lane v.seat.spent v.known l alive lane,
+    alive_lane x.seat.spent x.known l e is,
+    apart l,
+  ))
 
-  joined_one : (x : LaneView) (i : ℕ) (o : Joined) → slice_get x.joined i ≡ Some o → o.known.lane ≡ l → 1 ≤ total (λ o. same l o.known.lane) x.joined
-  joined_one x i o e is = omega (arith, total_at (λ (o : Joined). same l o.known.lane) x.joined i o e, same_one l o.known.lane is)
+  joined_one : (x : LaneView) (i : ℕ) (o : Joined) → slice_get x.joined i ≡ Some o → o.known.lane ≡ l
+      → 1 ≤ total (λ o. same l o.known.lane) x.joined
+  joined_one x i o e is = omega (
+    arith,
+    total_at (λ (o : Joined). same l o.known.lane) x.joined i o e,
+    same_one l o.known.lane is,
+  )
 
-  pub apart-joined : (j : ℕ) (x : LaneView) → get_elem? vs j ≡ some x → (i : ℕ) (o : Joined) → slice_get x.joined i ≡ Some o → o.known.lane ≢ l
+  pub apart-joined : (j : ℕ) (x : LaneView) → get_elem? vs j ≡ some x → (i : ℕ) (o : Joined)
+      → slice_get x.joined i ≡ Some o → o.known.lane ≢ l
   apart-joined j x at_x i o e is = dite (ℕ_discrete j id)
       (λ (h : j ≡ id). let same_view : some v ≡ some x = sym me ∙ ap (get_elem? vs) (sym h) ∙ at_x in
-      let here : 1 ≤ total (λ o. same l o.known.lane) v.joined = joined_one v i o (ap (λ (z : LaneView). slice_get z.joined i) (maybe.some-injective v x same_view) ∙ e) is in
+      let here : 1 ≤ total (λ o. same l o.known.lane) v.joined = joined_one v i o
+      (ap (λ (z : LaneView). slice_get z.joined i) (maybe.some-injective v x same_view) ∙ e) is in
       absurd (omega (arith, view_le (lanes l) vs id v me, alive_lane v.seat.spent v.known l alive lane, apart l)))
-      (λ h. absurd (omega (arith, terms_le (lanes l) vs id j v x h me at_x, alive_lane v.seat.spent v.known l alive lane, joined_one x i o e is, apart l)))
+      (λ h. absurd (omega (
+        arith,
+        terms_le (lanes l) vs id j v x h me at_x,
+        alive_lane v.seat.spent v.known l alive lane,
+        joined_one x i o e is,
+        apart l,
+      )))
 
   others_account : (o : Known) → o.lane ≢ l → Accounts a o → Accounts b o
   others_account o n h = record {
     fits = fits-after a b c.later c.lawful o h.fits;
-    mine = ap (by_lane o.lane) c.journal ∙ filter-append (λ (w : Write). w.lane == o.lane) a.journal more ∙ ap (λ z. by_lane o.lane a.journal ++ z) (other_lanes o.lane l more n c.own) ∙ sym (append_none (by_lane o.lane a.journal)) ∙ h.mine;
+    mine = ap (by_lane o.lane) c.journal ∙ filter-append (λ (w : Write). w.lane == o.lane) a.journal more
+        ∙ ap (λ z. by_lane o.lane a.journal ++ z) (other_lanes o.lane l more n c.own)
+        ∙ sym (append_none (by_lane o.lane a.journal)) ∙ h.mine;
   }
 
   lanes_same : (k : ℕ) → lanes k w ≡ lanes k v
   lanes_same k = λ i. cond (spent i) 0 (same k (same_lane i)) + total (λ o. same k o.known.lane) (joined i)
 
   new_outputs : (n : ℕ) → total (λ x. has_output n x.known.task) ws ≡ having is_pending n b.files.numbers
-  new_outputs n = omega (arith, total-set (λ (x : LaneView). has_output n x.known.task) vs id v w me, held.outputs n, c.outputs n)
+  new_outputs n = omega (
+    arith,
+    total-set (λ (x : LaneView). has_output n x.known.task) vs id v w me,
+    held.outputs n,
+    c.outputs n,
+  )
 
   new_grabbed : (n : ℕ) → total (λ x. grabs n x.known.task) ws ≡ having is_grabbed n b.files.numbers
-  new_grabbed n = omega (arith, total-set (λ (x : LaneView). grabs n x.known.task) vs id v w me, held.grabbed n, c.grabbed n)
+  new_grabbed n = omega (
+    arith,
+    total-set (λ (x : LaneView). grabs n x.known.task) vs id v w me,
+    held.grabbed n,
+    c.grabbed n,
+  )
 
   new_jobs : total (λ x. has_job x.known.task) ws ≡ b.files.jobs
   new_jobs = omega (arith, total-set (λ (x : LaneView). has_job x.known.task) vs id v w me, held.jobs, c.jobs)
 
   -- while no job is under way nothing is Grabbed
   none_grabbed : b.files.jobs ≡ 0 → (n : ℕ) → having is_grabbed n b.files.numbers ≡ 0
-  none_grabbed z n = sym (new_grabbed n) ∙ total_none (λ (x : LaneView). has_job x.known.task) (λ (x : LaneView). grabs n x.known.task) ws (λ x e. no_grabs n x.known.task.job e) (new_jobs ∙ z)
+  none_grabbed z n = sym (new_grabbed n) ∙ total_none (λ (x : LaneView). has_job x.known.task)
+      (λ (x : LaneView). grabs n x.known.task) ws (λ x e. no_grabs n x.known.task.job e) (new_jobs ∙ z)
 
   pub stays-there : b.files.jobs ≡ 0 → (n : ℕ) → IsThere a n → IsThere b n
   stays-there z n there = there-stays a b l t u more c before n
@@ -135,11 +180,23 @@ module _ (a b : Books) (work work' : Work) (start : Start) (disk disk' : Disk) (
       there
 
   -- where another lane is quiet no job begins
-  pub others-quiet : (j : ℕ) (x : LaneView) → j ≢ id → get_elem? vs j ≡ some x → x.seat.spent ≡ false → IsQuiet a x.known.task → b.files.jobs ≡ 0
+  pub others-quiet : (j : ℕ) (x : LaneView) → j ≢ id → get_elem? vs j ≡ some x → x.seat.spent ≡ false
+      → IsQuiet a x.known.task → b.files.jobs ≡ 0
   others-quiet j x n at_x e q =
       let n' = apart-view j x n at_x e in
-      let holding : 0 < at 0 a.files.holds x.known.lane = omega (arith, held.holds x.known.lane, view_le (holds_of x.known.lane) vs j x at_x, cond-is x.known.lane x.known.lane x.known.task.holds refl, q.holds) in
-      let resting : has_job t ≡ 0 = omega (arith, view_le (λ (y : LaneView). has_job y.known.task) vs id v me, held.jobs, q.jobs) in
+      let holding : 0 < at 0 a.files.holds x.known.lane = omega (
+        arith,
+        held.holds x.known.lane,
+        view_le (holds_of x.known.lane) vs j x at_x,
+        cond-is x.known.lane x.known.lane x.known.task.holds refl,
+        q.holds,
+      ) in
+      let resting : has_job t ≡ 0 = omega (
+        arith,
+        view_le (λ (y : LaneView). has_job y.known.task) vs id v me,
+        held.jobs,
+        q.jobs,
+      ) in
       let not_begun : has_job u ≡ 1 → ⊥ = λ h. omega (arith, c.begins resting h x.known.lane n', holding) in
       let most = job_most u.job in
       let no_job : has_job u ≡ 0 = grind (arith, not_begun, most) in
@@ -148,33 +205,57 @@ module _ (a b : Books) (work work' : Work) (start : Start) (disk disk' : Disk) (
   -- what the lane removed and ended is Gone
   pub removed-turn : Every (λ n. IsRegistered b.files.numbers n Gone) u.removed
   removed-turn i n e = gone-registered n b.files.numbers
-      (omega (arith, c.removed n, view_le (removals n) vs id v me, held.removed n, times_in n u.removed (record { at = i; is = e })))
+      (omega (
+        arith,
+        c.removed n,
+        view_le (removals n) vs id v me,
+        held.removed n,
+        times_in n u.removed (record { at = i; is = e }),
+      ))
 
   pub ended-turn : Every (IsGoneSnapshot b.snapshots) u.ended
-  ended-turn i n e = by (entry b.snapshots n) refl (omega (arith, c.ended n, view_le (endings n) vs id v me, held.ended n, times_in n u.ended (record { at = i; is = e })))
+  ended-turn i n e = by (entry b.snapshots n) refl (omega
+      (arith, c.ended n, view_le (endings n) vs id v me, held.ended n, times_in n u.ended (record { at = i; is = e })))
     where
-      by_live : (s : Snapshot) → entry b.snapshots n ≡ Some s → (q : Bool) → s.live ≡ q → 1 ≤ cond q 0 1 → IsGoneSnapshot b.snapshots n
+      by_live : (s : Snapshot) → entry b.snapshots n ≡ Some s → (q : Bool) → s.live ≡ q → 1 ≤ cond q 0 1
+          → IsGoneSnapshot b.snapshots n
       by_live s at true e h = absurd (omega arith)
       by_live s at false e h = (s, at, e)
 
-      by : (o : Option Snapshot) → entry b.snapshots n ≡ o → 1 ≤ gone_snapshot n b.snapshots → IsGoneSnapshot b.snapshots n
+      by : (o : Option Snapshot) → entry b.snapshots n ≡ o → 1 ≤ gone_snapshot n b.snapshots
+          → IsGoneSnapshot b.snapshots n
       by None e h = absurd (omega (arith, ap gone_count e))
       by (Some s) e h = by_live s e s.live refl (omega (arith, ap gone_count e))
 
   pub work-turns : Accounts b w.known → w.known.start ≡ v.known.start → CurrentsStand b ws
-      → ((f : ℕ) → f < 16 → 0 < excepts f work' → number' f ≡ 0 → Each (λ j x. has_db x ≡ 0 → times f x.known.task.handles ≡ 0) ws)
-      → (start.disk.faults + total faults ws ≤ disk'.faults) ⊎ (18446744073709551615 ≤ disk'.faults) → WorkHeld b work' start disk' number' ws
+      → ((f : ℕ) → f < 16 → 0 < excepts f work' → number' f ≡ 0
+      → Each (λ j x. has_db x ≡ 0 → times f x.known.task.handles ≡ 0) ws)
+      → (start.disk.faults + total faults ws ≤ disk'.faults) ⊎ (18446744073709551615 ≤ disk'.faults)
+      → WorkHeld b work' start disk' number' ws
   work-turns mine same_start currents silent risen = record {
     outputs = new_outputs;
     metas = each_set (λ j x. (o : Output) → x.known.task.output ≡ Some o → In o.meta b.metas) vs id w
         (λ o e. ⊎_elim
-        (λ (h : IsOutput t o). subst (λ m. In m b.metas) (sym h.same) (in-more a.metas b.metas c.later.metas h.was.meta (held.metas id v me h.was h.is)))
+        (λ (h : IsOutput t o). subst (λ m. In m b.metas) (sym h.same)
+        (in-more a.metas b.metas c.later.metas h.was.meta (held.metas id v me h.was h.is)))
         (λ (h : IsFresh a b o). h.covered) (c.output o e))
         (λ j x at_x o e. in-more a.metas b.metas c.later.metas o.meta (held.metas j x at_x o e));
     grabbed = new_grabbed;
     jobs = new_jobs;
-    removed = λ n. omega (arith, total-set (removals n) vs id v w me, held.removed n, c.removed n, ap (λ (os : List Joined). total (λ o. times n o.known.task.removed) os) joined);
-    ended = λ n. omega (arith, total-set (endings n) vs id v w me, held.ended n, c.ended n, ap (λ (os : List Joined). total (λ o. times n o.known.task.ended) os) joined);
+    removed = λ n. omega (
+      arith,
+      total-set (removals n) vs id v w me,
+      held.removed n,
+      c.removed n,
+      ap (λ (os : List Joined). total (λ o. times n o.known.task.removed) os) joined,
+    );
+    ended = λ n. omega (
+      arith,
+      total-set (endings n) vs id v w me,
+      held.ended n,
+      c.ended n,
+      ap (λ (os : List Joined). total (λ o. times n o.known.task.ended) os) joined,
+    );
     holds = λ k. dite (ℕ_discrete k l)
         (λ is. omega (
           arith,
@@ -214,10 +295,20 @@ module _ (a b : Books) (work work' : Work) (start : Start) (disk disk' : Disk) (
           cond-else w.known.lane k (times f u.handles) (λ e. n (sym e ∙ same_lane ∙ lane)),
         ));
     default = λ k few. dite (ℕ_discrete k l)
-        (λ is. omega (arith, c.handles 0, c.default, ap (λ z. handle b.families z 0) is, ap (λ z. handle a.families z 0) is, held.default k few))
+        (λ is. omega (
+          arith,
+          c.handles 0,
+          c.default,
+          ap (λ z. handle b.families z 0) is,
+          ap (λ z. handle a.families z 0) is,
+          held.default k few,
+        ))
         (λ n. c.others_handle k 0 n ∙ held.default k few);
-    own_default = each_set (λ j x. x.seat.spent ≡ false → times 0 x.known.task.handles ≡ 1) vs id w (λ e. c.default ∙ held.own_default id v me alive) held.own_default;
-    spent = each_set (λ j x. x.seat.spent ≡ true → (x.known.task.holds ≡ 0) × ((f : ℕ) → times f x.known.task.handles ≡ 0)) vs id w (λ e. absurd (true_not (sym e ∙ spent ∙ alive))) held.spent;
+    own_default = each_set (λ j x. x.seat.spent ≡ false → times 0 x.known.task.handles ≡ 1) vs id w
+        (λ e. c.default ∙ held.own_default id v me alive) held.own_default;
+    spent = each_set (λ j x. x.seat.spent ≡ true → (x.known.task.holds ≡ 0)
+        × ((f : ℕ) → times f x.known.task.handles ≡ 0)) vs id w (λ e. absurd (true_not (sym e ∙ spent ∙ alive)))
+        held.spent;
     quiet = each_other (λ j x. x.seat.spent ≡ false → x.known.task.quiet ≡ true → IsQuiet b x.known.task) vs id w
         (λ _ e. let q = c.quiet e in record {
           holds = q.0;
@@ -235,19 +326,27 @@ module _ (a b : Books) (work work' : Work) (start : Start) (disk disk' : Disk) (
     loud = each_set (λ j x. x.known.task.quiet ≡ false → x.known.task.listed ≡ []) vs id w c.loud held.loud;
     currents = currents;
     silent = silent;
-    starts = each_set (λ j x. x.seat.spent ≡ false → x.known.start ≡ start) vs id w (λ e. same_start ∙ held.starts id v me alive) held.starts;
-    accounts = each_other (λ j x. x.seat.spent ≡ false → Accounts b x.known) vs id w (λ _. mine) (λ j x n at_x e. others_account x.known (apart-view j x n at_x e) (held.accounts j x at_x e));
+    starts = each_set (λ j x. x.seat.spent ≡ false → x.known.start ≡ start) vs id w
+        (λ e. same_start ∙ held.starts id v me alive) held.starts;
+    accounts = each_other (λ j x. x.seat.spent ≡ false → Accounts b x.known) vs id w (λ _. mine)
+        (λ j x n at_x e. others_account x.known (apart-view j x n at_x e) (held.accounts j x at_x e));
     joined = each_other (λ j x. Every (λ o. Accounts b o.known) x.joined) vs id w
-        (λ i o e. let h = ap (λ (z : List Joined). slice_get z i) (sym joined) ∙ e in others_account o.known (apart-joined id v me i o h) (held.joined id v me i o h))
+        (λ i o e. let h = ap (λ (z : List Joined). slice_get z i) (sym joined) ∙ e in
+        others_account o.known (apart-joined id v me i o h) (held.joined id v me i o h))
         (λ j x n at_x i o e. others_account o.known (apart-joined j x at_x i o e) (held.joined j x at_x i o e));
     opening = held.opening;
     writes = λ i x e from. let few = view_same (lanes x.lane) vs id v w me (lanes_same x.lane) in ⊎_elim
         (λ (old : slice_get a.journal i ≡ Some x). omega (arith, held.writes i x old from))
-        (λ (new : In x more). omega (arith, view_le (lanes x.lane) vs id v me, alive_lane v.seat.spent v.known x.lane alive (lane ∙ sym (c.own new.at x new.is))))
+        (λ (new : In x more). omega (
+          arith,
+          view_le (lanes x.lane) vs id v me,
+          alive_lane v.seat.spent v.known x.lane alive (lane ∙ sym (c.own new.at x new.is)),
+        ))
         (push_or a.journal more i x (ap (λ z. slice_get z i) (sym c.journal) ∙ e));
     faults = risen;
   }
     where
       was_listed : (n : ℕ) → In n t.listed → (q : Bool) → t.quiet ≡ q → IsThere a n
       was_listed n old true e = (held.quiet id v me alive e).listed old.at n old.is
-      was_listed n old false e = absurd (get_none old.at n (ap (λ (z : List ℕ). slice_get z old.at) (sym (held.loud id v me e)) ∙ old.is))
+      was_listed n old false e = absurd (get_none old.at n
+          (ap (λ (z : List ℕ). slice_get z old.at) (sym (held.loud id v me e)) ∙ old.is))

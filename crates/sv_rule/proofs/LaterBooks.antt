@@ -35,7 +35,8 @@ get-old [] m n x is = absurd (cc)
 get-old (y ∷ l) m zero x is = is
 get-old (y ∷ l) m (suc n) x is = get-old l m n x is
 
-pub continues-at : {A : Type 0} (a b : List A) → Continues a b → (n : ℕ) (x : A) → slice_get a n ≡ Some x → slice_get b n ≡ Some x
+pub continues-at : {A : Type 0} (a b : List A) → Continues a b → (n : ℕ) (x : A) → slice_get a n ≡ Some x
+    → slice_get b n ≡ Some x
 continues-at a b h n x is = ap (λ l. slice_get l n) h.1 ∙ get-old a h.0 n x is
 
 pub in-more : {A : Type 0} (a b : List A) → Continues a b → (x : A) → In x a → In x b
@@ -45,16 +46,28 @@ in-more a b h x has = record { at = has.at; is = continues-at a b h has.at x has
 
 module _ (a b : Books) (h : After a b) where
   pub serial-after : (f t : ℕ) → IsSerialOf a.supers f t → IsSerialOf b.supers f t
-  serial-after f t k = let z = h.supers t k.sv k.is in record { sv = z.0; is = z.1; family = ap (λ (d : Descriptor). d.family) z.2.descriptor ∙ k.family }
+  serial-after f t k = let z = h.supers t k.sv k.is in record {
+    sv = z.0;
+    is = z.1;
+    family = ap (λ (d : Descriptor). d.family) z.2.descriptor ∙ k.family;
+  }
 
   pub pack-after : (f p : ℕ) → IsPackOf a.supers f p → IsPackOf b.supers f p
-  pack-after f p k = let z = h.supers (p / 256) k.sv k.is in record { sv = z.0; is = z.1; family = ap (λ (d : Descriptor). d.family) z.2.descriptor ∙ k.family; place = z.2.place ∙ k.place }
+  pack-after f p k = let z = h.supers (p / 256) k.sv k.is in
+      record {
+        sv = z.0;
+        is = z.1;
+        family = ap (λ (d : Descriptor). d.family) z.2.descriptor ∙ k.family;
+        place = z.2.place ∙ k.place;
+      }
 
   pub writes-after : (f : ℕ) → writes a.journal f ≤ writes b.journal f
-  writes-after f = continues-length (of_family f a.journal) (of_family f b.journal) (continues-filter (λ (w : Write). w.family == f) a.journal b.journal h.journal)
+  writes-after f = continues-length (of_family f a.journal) (of_family f b.journal)
+      (continues-filter (λ (w : Write). w.family == f) a.journal b.journal h.journal)
 
   borne-after : (m : ℕ) → length (borne_by m a.journal) ≤ length (borne_by m b.journal)
-  borne-after m = continues-length (borne_by m a.journal) (borne_by m b.journal) (continues-filter (λ (w : Write). w.mem == m) a.journal b.journal h.journal)
+  borne-after m = continues-length (borne_by m a.journal) (borne_by m b.journal)
+      (continues-filter (λ (w : Write). w.mem == m) a.journal b.journal h.journal)
 
   -- a SuperVersion shows no less
   pub end-after : (f p : ℕ) → IsPackOf a.supers f p → end_at a p ≤ end_at b p
@@ -75,7 +88,8 @@ module _ (a b : Books) (h : After a b) where
   pub end-same : b.journal ≡ a.journal → (f p : ℕ) → IsPackOf a.supers f p → end_at b p ≡ end_at a p
   end-same journal f p k =
       let z = h.supers (p / 256) k.sv k.is in
-      ap (end_in b.journal) z.1 ∙ ((λ i. (z.2.descriptor i).base + length (borne_by (z.2.descriptor i).active (journal i))) ∙ sym (ap (end_in a.journal) k.is))
+      ap (end_in b.journal) z.1 ∙ ((λ i. (z.2.descriptor i).base + length
+      (borne_by (z.2.descriptor i).active (journal i))) ∙ sym (ap (end_in a.journal) k.is))
 
   pub based-after : (x y : SuperVersion) → KeepsSuper x y → IsBased a.memtables x → IsBased b.memtables y
   based-after x y same k = let m = h.memtables x.descriptor.active k.active k.at in record {
@@ -93,13 +107,21 @@ length-take_le (suc n) [] = omega arith
 length-take_le (suc n) (x ∷ l) = omega (arith, length-take_le n l)
 
 -- a memtable's rows end within its family's writes
-pub bears_le : (journal : List Write) (m : ℕ) (it : Memtable) → BearsFrom journal m it → it.first + length (borne_by m journal) ≤ length (of_family it.family journal)
+pub bears_le : (journal : List Write) (m : ℕ) (it : Memtable) → BearsFrom journal m it
+    → it.first + length (borne_by m journal) ≤ length (of_family it.family journal)
 bears_le journal m it h =
     let F = of_family it.family journal in
-    omega (arith, h.within, ap length h.rows, length-take_le (length (borne_by m journal)) (drop it.first F), length-drop it.first F)
+    omega (
+      arith,
+      h.within,
+      ap length h.rows,
+      length-take_le (length (borne_by m journal)) (drop it.first F),
+      length-drop it.first F,
+    )
 
 -- no SuperVersion ends after its family's writes
-pub shown : (b : Books) → Lawful b → EachEntry (λ t x. IsBased b.memtables x) b.supers → (f p : ℕ) → IsPackOf b.supers f p → end_at b p ≤ writes b.journal f
+pub shown : (b : Books) → Lawful b → EachEntry (λ t x. IsBased b.memtables x) b.supers → (f p : ℕ)
+    → IsPackOf b.supers f p → end_at b p ≤ writes b.journal f
 shown b lawful based f p k =
     let z = based (p / 256) k.sv k.is in
     omega (
@@ -111,9 +133,15 @@ shown b lawful based f p k =
     )
 
 -- one that is Live begins where its memtable does
-pub based-live : (b : Books) → Lawful b → (t : ℕ) (x : SuperVersion) → entry b.supers t ≡ Some x → x.live ≡ true → IsBased b.memtables x
+pub based-live : (b : Books) → Lawful b → (t : ℕ) (x : SuperVersion) → entry b.supers t ≡ Some x → x.live ≡ true
+    → IsBased b.memtables x
 based-live b lawful t x at live =
-    let d = lawful.descriptors t x at live in record { active = d.active; at = d.active_at; family = d.active_family; base = d.base }
+    let d = lawful.descriptors t x at live in record {
+      active = d.active;
+      at = d.active_at;
+      family = d.active_family;
+      base = d.base;
+    }
 
 -- a register that goes on is as long
 pub entry-some : {A : Type 0} (l : List A) (n : ℕ) → 0 < n → n ≤ length l → (x : A) × (entry l n ≡ Some x)
@@ -129,7 +157,8 @@ goes-long R a b goes = by (length a) refl
         let x = entry-some a (length a) (omega (arith, e)) (omega arith) in
         let y = goes (length a) x.0 x.1 in (entry_le b (length a) y.0 y.1).1
 
-pub get-map : {A B : Type 0} (f : A → B) (l : List A) (i : ℕ) (x : A) → slice_get l i ≡ Some x → slice_get (map f l) i ≡ Some (f x)
+pub get-map : {A B : Type 0} (f : A → B) (l : List A) (i : ℕ) (x : A) → slice_get l i ≡ Some x
+    → slice_get (map f l) i ≡ Some (f x)
 get-map f [] i x e = absurd (cc)
 get-map f (y ∷ l) zero x e = let q : y ≡ x = cc in ap (λ z. Some (f z)) q
 get-map f (y ∷ l) (suc i) x e = get-map f l i x e

@@ -6,6 +6,7 @@ pub mod LaterBooks
 pub mod Stepping
 pub mod LockLaws
 pub mod NumberTurns
+pub mod NumberWorks
 pub mod FreshTurns
 pub mod RoundTurns
 pub mod PassedRows

@@ -32,7 +32,8 @@ captured-cons : (x : RegisteredFile) (l : List RegisteredFile)
 captured-cons x l = by (is_some x.family)
   where
     by : (b : Bool)
-        → map (λ (z : RegisteredFile). z.number) (cond b (x ∷ filter (λ z. is_some z.family) l) (filter (λ z. is_some z.family) l)) ≡ cond b (x.number ∷ captured_numbers l) (captured_numbers l)
+        → map (λ (z : RegisteredFile). z.number) (cond b (x ∷ filter (λ z. is_some z.family) l)
+        (filter (λ z. is_some z.family) l)) ≡ cond b (x.number ∷ captured_numbers l) (captured_numbers l)
     by true = refl
     by false = refl
 
@@ -42,7 +43,8 @@ captured-le n [] = omega arith
 captured-le n (x ∷ l) = omega (arith, by (is_some x.family), captured-le n l, ap (times n) (captured-cons x l))
   where
     by : (b : Bool)
-        → times n (cond b (x.number ∷ captured_numbers l) (captured_numbers l)) ≤ same n x.number + times n (captured_numbers l)
+        → times n (cond b (x.number ∷ captured_numbers l) (captured_numbers l)) ≤ same n x.number + times n
+        (captured_numbers l)
     by true = omega arith
     by false = omega arith
 
@@ -54,7 +56,8 @@ captured-in (y ∷ l) zero x e p =
     record {
       at = 0;
       is = ap (λ k. slice_get k 0)
-          (captured-cons y l ∙ ap (λ b. cond b (y.number ∷ captured_numbers l) (captured_numbers l)) (ap (λ (z : RegisteredFile). is_some z.family) q ∙ p))
+          (captured-cons y l ∙ ap (λ b. cond b (y.number ∷ captured_numbers l) (captured_numbers l))
+          (ap (λ (z : RegisteredFile). is_some z.family) q ∙ p))
           ∙ ap (λ (z : RegisteredFile). Some z.number) q;
     }
 captured-in (y ∷ l) (suc i) x e p =
@@ -77,7 +80,8 @@ meta-at [] i n e = absurd (cc)
 meta-at (x ∷ l) zero n e = (x, refl, some_is e)
 meta-at (x ∷ l) (suc i) n e = meta-at l i n e
 
-module _ (numbers : List RegisteredFile) (captured : List (Option ℕ)) (next : ℕ) (metas : List FileMeta) (law : NumbersStand numbers captured next) (are : numbers_of metas ≡ captured_numbers numbers) where
+module _ (numbers : List RegisteredFile) (captured : List (Option ℕ)) (next : ℕ) (metas : List FileMeta)
+    (law : NumbersStand numbers captured next) (are : numbers_of metas ≡ captured_numbers numbers) where
   once : Distinct (captured_numbers numbers)
   once = distinct_times (captured_numbers numbers) (λ n. omega (arith, captured-le n numbers, law.once n))
 

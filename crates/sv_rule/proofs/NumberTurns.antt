@@ -28,7 +28,8 @@ use Rattle.sv_rule.proofs.Sums.{same-else, same-self}
 pub current-stands : (a b : Books) → Stands a b → (f : ℕ) → current_of b f ≡ current_of a f
 current-stands a b s f = λ i. current_in (s.supers i) (s.tops i) f
 
-pub based-stands : (a b : Books) → After a b → b.supers ≡ a.supers → EachEntry (λ t x. IsBased a.memtables x) a.supers → EachEntry (λ t x. IsBased b.memtables x) b.supers
+pub based-stands : (a b : Books) → After a b → b.supers ≡ a.supers → EachEntry (λ t x. IsBased a.memtables x) a.supers
+    → EachEntry (λ t x. IsBased b.memtables x) b.supers
 based-stands a b later same all t x at =
     let z = later.supers t x (ap (λ l. entry l t) (sym same) ∙ at) in
     let e : z.0 ≡ x = some_is (sym z.1 ∙ at) in
@@ -39,7 +40,8 @@ module _ (a b : Books) (later : After a b) (lawful : Lawful b) (stands : Stands 
   serial_back f t = subst (λ z. IsSerialOf z f t) stands.supers
 
   -- a write comes only while no work is under way
-  pub numbers-stands : (work : Work) (number : ℕ → ℕ) → (work ≡ idle) ⊎ (b.journal ≡ a.journal) → Numbers a work number → Numbers b work number
+  pub numbers-stands : (work : Work) (number : ℕ → ℕ) → (work ≡ idle) ⊎ (b.journal ≡ a.journal)
+      → Numbers a work number → Numbers b work number
   numbers-stands work number still k = record {
     lawful = lawful;
     word = λ f l. let o = k.word f l in let same_now = current-stands a b stands f in record {
@@ -47,15 +49,23 @@ module _ (a b : Books) (later : After a b) (lawful : Lawful b) (stands : Stands 
       marks = o.marks;
       is = λ big. pack-after a b later f (number f) (o.is big);
       other = λ z big e. o.other z big (e ∙ same_now);
-      last = λ big t s. ⊎_elim (λ z. inl z) (λ z. inr (z.0, z.1 ∙ ap (λ c. c / 256) (sym same_now))) (o.last big t (serial_back f t s));
+      last = λ big t s. ⊎_elim (λ z. inl z) (λ z. inr (z.0, z.1 ∙ ap (λ c. c / 256) (sym same_now)))
+          (o.last big t (serial_back f t s));
       first = λ z e t s. o.first z e t (serial_back f t s) ∙ ap (λ c. c / 256) (sym same_now);
       ends = λ big. ⊎_elim
           (λ (e : work ≡ idle). let is : number f ≡ current_of b f = o.current (ap (excepts f) e) ∙ sym same_now in
           subst (λ c. end_at b c ≡ writes b.journal f) (sym is) (current_ends b lawful f (omega (arith, is))))
-          (λ (e : b.journal ≡ a.journal). end-same a b later e f (number f) (o.is big) ∙ (o.ends big ∙ ap (λ j. writes j f) (sym e)))
+          (λ (e : b.journal ≡ a.journal). end-same a b later e f (number f) (o.is big)
+          ∙ (o.ends big ∙ ap (λ j. writes j f) (sym e)))
           still;
     };
-    top = λ f l z big. let same_now = current-stands a b stands f in omega (arith, k.top f l z (omega (arith, same_now)), same_now, ap (λ (z : List SuperVersion). length z) stands.supers);
+    top = λ f l z big. let same_now = current-stands a b stands f in
+        omega (
+          arith,
+          k.top f l z (omega (arith, same_now)),
+          same_now,
+          ap (λ (z : List SuperVersion). length z) stands.supers,
+        );
     based = based-stands a b later stands.supers k.based;
   }
 
@@ -63,10 +73,21 @@ module _ (a b : Books) (later : After a b) (lawful : Lawful b) (stands : Stands 
 
 module _ (a b : Books) (later : After a b) (before : Lawful a) (f p : ℕ) (h : Opens a b f p) where
   pub new-pack : IsPackOf b.supers f p
-  new-pack = record { sv = h.super; is = ap (λ l. entry l (p / 256)) h.supers ∙ entry-new a.supers h.super (p / 256) h.serial; family = h.family; place = h.place }
+  new-pack = record {
+    sv = h.super;
+    is = ap (λ l. entry l (p / 256)) h.supers
+        ∙ entry-new a.supers h.super (p / 256) h.serial;
+    family = h.family;
+    place = h.place;
+  }
 
   pub opens-long : length b.supers ≡ p / 256
-  opens-long = omega (arith, ap (λ (z : List SuperVersion). length z) h.supers, length-append a.supers (h.super ∷ []), h.serial)
+  opens-long = omega (
+    arith,
+    ap (λ (z : List SuperVersion). length z) h.supers,
+    length-append a.supers (h.super ∷ []),
+    h.serial,
+  )
 
   pub opens-back : (g t : ℕ) → IsSerialOf b.supers g t → IsSerialOf a.supers g t ⊎ ((t ≡ p / 256) × (g ≡ f))
   opens-back g t s = ⊎_elim
@@ -79,9 +100,11 @@ module _ (a b : Books) (later : After a b) (before : Lawful a) (f p : ℕ) (h : 
 
   -- the packs of other currents
   pub opens-others : (g : ℕ) → g ≢ f → current_of b g ≡ current_of a g
-  opens-others g n = ap (λ o. pack_of_serial b.supers (current_serial o)) (h.others g n) ∙ by_top (slice_get a.tops g) refl
+  opens-others g n = ap (λ o. pack_of_serial b.supers (current_serial o)) (h.others g n)
+      ∙ by_top (slice_get a.tops g) refl
     where
-      by_serial : (t : Top) → slice_get a.tops g ≡ Some t → (o : Option ℕ) → t.current ≡ o → pack_of_serial b.supers o ≡ pack_of_serial a.supers o
+      by_serial : (t : Top) → slice_get a.tops g ≡ Some t → (o : Option ℕ) → t.current ≡ o
+          → pack_of_serial b.supers o ≡ pack_of_serial a.supers o
       by_serial t at None e = refl
       by_serial t at (Some s) e =
           let y = some-at a.families g (omega (arith, get_lt a.tops g t at, before.paired)) in
@@ -89,12 +112,14 @@ module _ (a b : Books) (later : After a b) (before : Lawful a) (f p : ℕ) (h : 
           let z = later.supers s k.it k.at in
           ap (pack_at s) z.1 ∙ ((λ i. pack s (z.2.place i)) ∙ sym (ap (pack_at s) k.at))
 
-      by_top : (o : Option Top) → slice_get a.tops g ≡ o → pack_of_serial b.supers (current_serial o) ≡ pack_of_serial a.supers (current_serial o)
+      by_top : (o : Option Top) → slice_get a.tops g ≡ o
+          → pack_of_serial b.supers (current_serial o) ≡ pack_of_serial a.supers (current_serial o)
       by_top None e = refl
       by_top (Some t) e = by_serial t e t.current refl
 
   -- the old number word stays, and the work is set
-  pub numbers-opens : (number : ℕ → ℕ) → Lawful b → b.journal ≡ a.journal → Numbers a idle number → Numbers b (opens f) number
+  pub numbers-opens : (number : ℕ → ℕ) → Lawful b → b.journal ≡ a.journal → Numbers a idle number
+      → Numbers b (opens f) number
   numbers-opens number lawful journal k = record {
     lawful = lawful;
     word = λ g l. let o = k.word g l in record {
@@ -106,11 +131,16 @@ module _ (a b : Books) (later : After a b) (before : Lawful a) (f p : ℕ) (h : 
           (λ n. omega (arith, same-else f g n));
       last = λ y t s. ⊎_elim
           (λ old. ⊎_elim (λ z. inl z) (λ z. absurd (omega (arith, z.0))) (o.last y t old))
-          (λ made. inr (omega (arith, ap (same f) made.1, same-self f), made.0 ∙ sym (ap (λ z. current_of b z / 256) made.1 ∙ ap (λ z. z / 256) h.current)))
+          (λ made. inr (
+            omega (arith, ap (same f) made.1, same-self f),
+            made.0
+                ∙ sym (ap (λ z. current_of b z / 256) made.1 ∙ ap (λ z. z / 256) h.current),
+          ))
           (opens-back g t s);
       first = λ z e t s. ⊎_elim
           (λ old. dite (ℕ_discrete g f)
-          (λ y. absurd (h.first (sym (o.current refl ∙ ap (current_of a) y) ∙ e) t (subst (λ c. IsSerialOf a.supers c t) y old)))
+          (λ y. absurd (h.first (sym (o.current refl ∙ ap (current_of a) y) ∙ e) t
+          (subst (λ c. IsSerialOf a.supers c t) y old)))
           (λ n. absurd (omega (arith, same-else f g n))))
           (λ made. made.0 ∙ sym (ap (λ c. current_of b c / 256) made.1 ∙ ap (λ c. c / 256) h.current))
           (opens-back g t s);
@@ -120,7 +150,8 @@ module _ (a b : Books) (later : After a b) (before : Lawful a) (f p : ℕ) (h : 
         (λ e. ap (λ c. current_of b c / 256) e ∙ (ap (λ c. c / 256) h.current ∙ sym opens-long))
         (λ n. absurd (omega (arith, same-else f g n)));
     based = λ t x at. ⊎_elim
-        (λ old. let z = later.supers t x old in subst (IsBased b.memtables) (some_is (sym z.1 ∙ at)) (based-after a b later x z.0 z.2 (k.based t x old)))
+        (λ old. let z = later.supers t x old in subst (IsBased b.memtables) (some_is (sym z.1 ∙ at))
+        (based-after a b later x z.0 z.2 (k.based t x old)))
         (λ made. based-live b lawful t x at (ap (λ (z : SuperVersion). z.live) made.1 ∙ h.live))
         (entry_push a.supers h.super t x (ap (λ l. entry l t) (sym h.supers) ∙ at));
   }
@@ -133,23 +164,27 @@ module _ (a b : Books) (later : After a b) (p : ℕ) (cells : List ℕ) (h : End
       (λ s. record {
         sv = h.gone.sv;
         is = ap (entry a.supers) s ∙ h.gone.was;
-        family = ap (λ (z : SuperVersion). z.descriptor.family) (some_is (sym h.gone.is ∙ (ap (entry b.supers) (sym s) ∙ k.is))) ∙ k.family;
+        family = ap (λ (z : SuperVersion). z.descriptor.family)
+            (some_is (sym h.gone.is ∙ (ap (entry b.supers) (sym s) ∙ k.is))) ∙ k.family;
       })
       (λ n. record { sv = k.sv; is = sym (h.gone.others t n) ∙ k.is; family = k.family })
 
   pub gone-current : (g : ℕ) → current_of b g ≡ current_of a g
-  gone-current g = ap (λ z. pack_of_serial b.supers (current_serial (slice_get z g))) h.tops ∙ by (current_serial (slice_get a.tops g))
+  gone-current g = ap (λ z. pack_of_serial b.supers (current_serial (slice_get z g))) h.tops
+      ∙ by (current_serial (slice_get a.tops g))
     where
       at_serial : (s : ℕ) → pack_at s (entry b.supers s) ≡ pack_at s (entry a.supers s)
       at_serial s = dite (ℕ_discrete s (p / 256))
-          (λ e. ap (λ z. pack_at s (entry b.supers z)) e ∙ (ap (pack_at s) h.gone.is ∙ sym (ap (λ z. pack_at s (entry a.supers z)) e ∙ ap (pack_at s) h.gone.was)))
+          (λ e. ap (λ z. pack_at s (entry b.supers z)) e
+          ∙ (ap (pack_at s) h.gone.is ∙ sym (ap (λ z. pack_at s (entry a.supers z)) e ∙ ap (pack_at s) h.gone.was)))
           (λ n. ap (pack_at s) (h.gone.others s n))
 
       by : (o : Option ℕ) → pack_of_serial b.supers o ≡ pack_of_serial a.supers o
       by None = refl
       by (Some s) = at_serial s
 
-  pub numbers-gone : (work : Work) (number : ℕ → ℕ) → Lawful b → b.journal ≡ a.journal → Numbers a work number → Numbers b work number
+  pub numbers-gone : (work : Work) (number : ℕ → ℕ) → Lawful b → b.journal ≡ a.journal → Numbers a work number
+      → Numbers b work number
   numbers-gone work number lawful journal k = record {
     lawful = lawful;
     word = λ g l. let o = k.word g l in record {
@@ -157,21 +192,24 @@ module _ (a b : Books) (later : After a b) (p : ℕ) (cells : List ℕ) (h : End
       marks = o.marks;
       is = λ y. pack-after a b later g (number g) (o.is y);
       other = λ z y e. o.other z y (e ∙ gone-current g);
-      last = λ y t s. ⊎_elim (λ z. inl z) (λ z. inr (z.0, z.1 ∙ ap (λ c. c / 256) (sym (gone-current g)))) (o.last y t (gone-back g t s));
+      last = λ y t s. ⊎_elim (λ z. inl z) (λ z. inr (z.0, z.1 ∙ ap (λ c. c / 256) (sym (gone-current g))))
+          (o.last y t (gone-back g t s));
       first = λ z e t s. o.first z e t (gone-back g t s) ∙ ap (λ c. c / 256) (sym (gone-current g));
       ends = λ y. end-same a b later journal g (number g) (o.is y) ∙ (o.ends y ∙ ap (λ z. writes z g) (sym journal));
     };
     top = λ g l z y. omega (arith, k.top g l z (omega (arith, gone-current g)), gone-current g, h.gone.long);
     based = λ t x at. dite (ℕ_discrete t (p / 256))
         (λ s. let z = later.supers t h.gone.sv (ap (entry a.supers) s ∙ h.gone.was) in
-        subst (IsBased b.memtables) (some_is (sym z.1 ∙ at)) (based-after a b later h.gone.sv z.0 z.2 (k.based t h.gone.sv (ap (entry a.supers) s ∙ h.gone.was))))
+        subst (IsBased b.memtables) (some_is (sym z.1 ∙ at))
+        (based-after a b later h.gone.sv z.0 z.2 (k.based t h.gone.sv (ap (entry a.supers) s ∙ h.gone.was))))
         (λ n. let was = sym (h.gone.others t n) ∙ at in let z = later.supers t x was in
         subst (IsBased b.memtables) (some_is (sym z.1 ∙ at)) (based-after a b later x z.0 z.2 (k.based t x was)));
   }
 
   pub live-gone : (u j : ℕ) → LiveAt b.supers u j → (u ≢ p / 256) × LiveAt a.supers u j
   live-gone u j l = dite (ℕ_discrete u (p / 256))
-      (λ s. absurd (true_not (sym l.live ∙ ap (λ (z : SuperVersion). z.live) (some_is (sym l.is ∙ (ap (entry b.supers) s ∙ h.gone.is))))))
+      (λ s. absurd (true_not (sym l.live ∙ ap (λ (z : SuperVersion). z.live)
+      (some_is (sym l.is ∙ (ap (entry b.supers) s ∙ h.gone.is))))))
       (λ n. (n, record { sv = l.sv; is = sym (h.gone.others u n) ∙ l.is; live = l.live; place_is = l.place_is }))
 
   pub live-stays : (u j : ℕ) → u ≢ p / 256 → LiveAt a.supers u j → LiveAt b.supers u j
@@ -186,89 +224,23 @@ module _ (a b : Books) (later : After a b) (f : ℕ) (h : EndsCurrent a b f) whe
   pub ended-others : (g : ℕ) → g ≢ f → current_of b g ≡ current_of a g
   ended-others g n = λ i. pack_of_serial (h.supers i) (current_serial (h.others g n i))
 
-  pub numbers-ended : (number : ℕ → ℕ) → Lawful b → b.journal ≡ a.journal → 256 ≤ number f → Numbers a idle number → Numbers b (begun f) number
+  pub numbers-ended : (number : ℕ → ℕ) → Lawful b → b.journal ≡ a.journal → 256 ≤ number f → Numbers a idle number
+      → Numbers b (begun f) number
   numbers-ended number lawful journal big k = record {
     lawful = lawful;
     word = λ g l. let o = k.word g l in record {
       current = λ z. o.current refl ∙ sym (ended-others g (λ e. omega (arith, ap (same f) e, same-self f)));
       marks = o.marks;
       is = λ y. pack-after a b later g (number g) (o.is y);
-      other = λ z y e. dite (ℕ_discrete g f) (λ s. omega (arith, e, ap (current_of b) s, ended-current)) (λ n. omega (arith, same-else f g n));
-      last = λ y t s. ⊎_elim (λ z. inl z) (λ z. absurd (omega (arith, z.0))) (o.last y t (subst (λ z. IsSerialOf z g t) h.supers s));
-      first = λ z e. dite (ℕ_discrete g f) (λ y. absurd (omega (arith, ap number y))) (λ n. absurd (omega (arith, same-else f g n)));
+      other = λ z y e. dite (ℕ_discrete g f) (λ s. omega (arith, e, ap (current_of b) s, ended-current))
+          (λ n. omega (arith, same-else f g n));
+      last = λ y t s. ⊎_elim (λ z. inl z) (λ z. absurd (omega (arith, z.0)))
+          (o.last y t (subst (λ z. IsSerialOf z g t) h.supers s));
+      first = λ z e. dite (ℕ_discrete g f) (λ y. absurd (omega (arith, ap number y)))
+          (λ n. absurd (omega (arith, same-else f g n)));
       ends = λ y. end-same a b later journal g (number g) (o.is y) ∙ (o.ends y ∙ ap (λ z. writes z g) (sym journal));
     };
-    top = λ g l z y. dite (ℕ_discrete g f) (λ e. absurd (omega (arith, ap (current_of b) e, ended-current))) (λ n. absurd (omega (arith, same-else f g n)));
+    top = λ g l z y. dite (ℕ_discrete g f) (λ e. absurd (omega (arith, ap (current_of b) e, ended-current)))
+        (λ n. absurd (omega (arith, same-else f g n)));
     based = based-stands a b later h.supers k.based;
   }
-
--- ---- only the work changes
-
-pub numbers-work : (b : Books) (work work' : Work) (number : ℕ → ℕ) → ((f : ℕ) → excepts f work' ≡ excepts f work) → Numbers b work number → Numbers b work' number
-numbers-work b work work' number e h = record {
-  lawful = h.lawful;
-  word = λ f l. let k = h.word f l in record {
-    current = λ z. k.current (sym (e f) ∙ z);
-    marks = k.marks;
-    is = k.is;
-    other = λ z. k.other (omega (arith, e f));
-    last = λ big t y. ⊎_elim (λ z. inl z) (λ z. inr (omega (arith, e f, z.0), z.1)) (k.last big t y);
-    first = λ z. k.first (omega (arith, e f));
-    ends = k.ends;
-  };
-  top = λ f l z. h.top f l (omega (arith, e f));
-  based = h.based;
-}
-
--- ---- the number word of a begun work becomes the current
-
-module _ (b : Books) (f : ℕ) (near : f < 16) (number number' : ℕ → ℕ) (k : Numbers b (begun f) number) (here : number' f ≡ current_of b f) (else : (g : ℕ) → g < 16 → g ≢ f → number' g ≡ number g) where
-  begun_one : 0 < excepts f (begun f)
-  begun_one = omega (arith, same-self f)
-
-  -- the new number is after the old
-  pub new-is-last : 256 ≤ current_of b f → current_of b f / 256 ≡ length b.supers
-  new-is-last big = k.top f near begun_one big
-
-  pub renumbered : (old m taken : ℕ) (mid : Bool) → Numbers b (sweeping f old m mid taken) number'
-  renumbered old m taken mid = record {
-    lawful = k.lawful;
-    word = λ g l. dite (ℕ_discrete g f)
-        (λ e. subst (λ (z : ℕ). NumberOk b (sweeping f old m mid taken) z (number' z)) (sym e) (subst (λ (z : ℕ). NumberOk b (sweeping f old m mid taken) f z) (sym here) record {
-          current = λ _. refl;
-          marks = current_marks b f;
-          is = current_is b k.lawful f;
-          other = λ z. absurd (omega arith);
-          last = λ big t s. inl (omega (arith, (serial_le b.supers f t s).1, new-is-last big));
-          first = λ z. absurd (omega arith);
-          ends = current_ends b k.lawful f;
-        }))
-        (λ n. subst (λ (z : ℕ). NumberOk b (sweeping f old m mid taken) g z) (sym (else g l n)) (let o = k.word g l in record {
-          current = λ _. o.current (same-else f g n);
-          marks = o.marks;
-          is = o.is;
-          other = λ z. absurd (omega arith);
-          last = λ big t s. ⊎_elim (λ z. inl z) (λ z. absurd (omega (arith, z.0, same-else f g n))) (o.last big t s);
-          first = λ z. absurd (omega arith);
-          ends = o.ends;
-        }));
-    top = λ g l z. absurd (omega arith);
-    based = k.based;
-  }
-
-  pub past-renumbered : (q : ℕ) → Past b (number f) f q → Past b (number' f) f q
-  past-renumbered q h = record {
-    is = h.is;
-    below = λ pos. let big : 256 ≤ current_of b f = dite (dec_le 256 (current_of b f)) (λ z. z) (λ z. absurd (omega (arith, current_marks b f (omega arith), here))) in omega (arith, pack_le h.is, new-is-last big, here);
-    none = λ z e. let two = pack_big h.is in omega (arith, here);
-  }
-
-  pub now-renumbered : 256 ≤ number' f → Past b (number' f) f (number' f)
-  now-renumbered big = record { is = subst (λ (z : ℕ). IsPackOf b.supers f z) (sym here) (current_is b k.lawful f (omega (arith, here))); below = λ _. omega arith; none = λ z. absurd (omega arith) }
-
-  -- no pack of the past is the new number
-  pub not-new : (q : ℕ) → 256 ≤ q → Past b (number f) f q → q ≢ number' f
-  not-new q big h e = let is : q ≡ current_of b f = e ∙ here in let top = new-is-last (omega (arith, is)) in dite (ℕ_discrete (number f) 0)
-      (λ z. h.none z is)
-      (λ n. let o = k.word f near in let r_big : 256 ≤ number f = dite (dec_le 256 (number f)) (λ z. z) (λ z. absurd (n (o.marks (omega arith)))) in
-      o.other begun_one r_big (one_pack b.supers f f (number f) (current_of b f) (o.is r_big) (current_is b k.lawful f (omega (arith, is))) (omega (arith, pack_le (o.is r_big), h.below (omega arith), top, ap (λ (z : ℕ). z / 256) is))))

@@ -40,28 +40,39 @@ lowered_rounds : (p : ℕ) (work : Work) → rounds_of (lowered p work) ≡ roun
 lowered_rounds p idle = refl
 lowered_rounds p (opens f) = refl
 lowered_rounds p (begun f) = refl
-lowered_rounds p (sweeping f old m mid zero) = elim (old == p) as (λ z. rounds_of (cond z idle (sweeping f old m mid zero)) ≡ rounds_of (sweeping f old m mid zero)) [ true ↦ refl | false ↦ refl ]
-lowered_rounds p (sweeping f old m mid (suc t)) = elim (old == p) as (λ z. rounds_of (cond z (sweeping f old m mid t) (sweeping f old m mid (suc t))) ≡ rounds_of (sweeping f old m mid (suc t))) [ true ↦ refl | false ↦ refl ]
+lowered_rounds p (sweeping f old m mid zero) = elim (old == p) as
+    (λ z. rounds_of (cond z idle (sweeping f old m mid zero)) ≡ rounds_of (sweeping f old m mid zero))
+    [ true ↦ refl | false ↦ refl ]
+lowered_rounds p (sweeping f old m mid (suc t)) = elim (old == p) as
+    (λ z. rounds_of (cond z (sweeping f old m mid t) (sweeping f old m mid (suc t))) ≡ rounds_of
+    (sweeping f old m mid (suc t))) [ true ↦ refl | false ↦ refl ]
 
 lowered-excepts : (p : ℕ) (work : Work) (f : ℕ) → excepts f (lowered p work) ≤ excepts f work
 lowered-excepts p idle f = omega arith
 lowered-excepts p (opens g) f = omega arith
 lowered-excepts p (begun g) f = omega arith
-lowered-excepts p (sweeping g old m mid zero) f = elim (old == p) as (λ z. excepts f (cond z idle (sweeping g old m mid zero)) ≤ 0) [ true ↦ omega arith | false ↦ omega arith ]
-lowered-excepts p (sweeping g old m mid (suc t)) f = elim (old == p) as (λ z. excepts f (cond z (sweeping g old m mid t) (sweeping g old m mid (suc t))) ≤ 0) [ true ↦ omega arith | false ↦ omega arith ]
+lowered-excepts p (sweeping g old m mid zero) f = elim (old == p) as
+    (λ z. excepts f (cond z idle (sweeping g old m mid zero)) ≤ 0) [ true ↦ omega arith | false ↦ omega arith ]
+lowered-excepts p (sweeping g old m mid (suc t)) f = elim (old == p) as
+    (λ z. excepts f (cond z (sweeping g old m mid t) (sweeping g old m mid (suc t))) ≤ 0)
+    [ true ↦ omega arith | false ↦ omega arith ]
 
 -- what the sweep took is not the last
-taken_more : (p : ℕ) (b : Books) (work : Work) (hand : List ℕ) → 256 ≤ p → 0 < has_taken p work → Stock b work hand → 2 ≤ total (same p) hand
+taken_more : (p : ℕ) (b : Books) (work : Work) (hand : List ℕ) → 256 ≤ p → 0 < has_taken p work → Stock b work hand
+    → 2 ≤ total (same p) hand
 taken_more p b idle hand big h ok = absurd (omega arith)
 taken_more p b (opens f) hand big h ok = absurd (omega arith)
 taken_more p b (begun f) hand big h ok = absurd (omega arith)
 taken_more p b (sweeping f old m mid taken) hand big h ok = dite (ℕ_discrete old p)
-    (λ e. subst (λ (z : ℕ). 2 ≤ total (same z) hand) e (omega (arith, ok (omega arith), ap (λ (z : Bool). cond z taken 0) (eq-eqb old p e))))
+    (λ e. subst (λ (z : ℕ). 2 ≤ total (same z) hand) e (omega
+    (arith, ok (omega arith), ap (λ (z : Bool). cond z taken 0) (eq-eqb old p e))))
     (λ n. absurd (omega (arith, ap (λ (z : Bool). cond z taken 0) (ne_eqb old p n))))
 
 -- a step on a reference word, where the books and the slots are as they were
 -- a step on a reference word, where the books and the slots are as they were
-module _ {S D C B : Type 0} (books : S → Books) (disk : D → Disk) (cell : C → Option Cell) (body : B → Body) (s : State (Stored S D C B) LaneView) (kept : Kept books disk cell body s) (id : ℕ) (v w : LaneView) (me : get_elem? s.views id ≡ some v) (k x : ℕ) (near : k < 256) where
+module _ {S D C B : Type 0} (books : S → Books) (disk : D → Disk) (cell : C → Option Cell) (body : B → Body)
+    (s : State (Stored S D C B) LaneView) (kept : Kept books disk cell body s) (id : ℕ) (v w : LaneView)
+    (me : get_elem? s.views id ≡ some v) (k x : ℕ) (near : k < 256) where
   abbrev pub R : State (Stored S D C B) LaneView
   R = next s (reference_word k) x s.homes id v w me
 
@@ -71,110 +82,206 @@ module _ {S D C B : Type 0} (books : S → Books) (disk : D → Disk) (cell : C 
   same_numbers : (f : ℕ) → f < 16 → number R f ≡ number s f
   same_numbers f l = else (number_word f) (λ z. omega arith)
 
-  pub kept-by-reference : (work : Work) → Lock (IsState {S = S} {D = D} {C = C} {B = B} books kept.b work) has_db (word s 0) (home s 0) R.views → Desks kept.b work R.views → ((f : ℕ) → 0 < excepts f work → 0 < excepts f kept.work) → (v.seat.spent ≡ false → Accounts kept.b w.known) → hand_view w ≡ hand_view v
+  pub kept-by-reference : (work : Work) → Lock (IsState {S = S} {D = D} {C = C} {B = B} books kept.b work) has_db
+      (word s 0) (home s 0) R.views → Desks kept.b work R.views
+      → ((f : ℕ) → 0 < excepts f work → 0 < excepts f kept.work) → (v.seat.spent ≡ false → Accounts kept.b w.known)
+      → hand_view w ≡ hand_view v
       → Places kept.b.supers (reference R) (holders R) (owers R) → length w.hand ≤ most_hand
       → fresh_view w ≡ fresh_view v → seat_view w ≡ seat_view v → (w.seat.spent ≡ true → w.locks ≡ no_locks)
-      → Numbers kept.b work (number s) → Rights work (number s) (slot s) s.views → Apart (number s) work → ((d : Desk) → w.locks.db ≡ Some d → Stock d.books d.work w.hand) → rounds_of work ≡ rounds_of kept.work → rounds_view w ≡ rounds_view v → Kept books disk cell body R
-  kept-by-reference work lock desks less mine hands places few stand shaped dead numbers rights apart stock same_work same_rounds =
-      kept-by-word books disk cell body s kept id v w me (reference_word k) x (omega arith) (omega arith) kept.b work lock desks
-      (rest-same books disk cell body s kept id v w me (reference_word k) x hands work (omega arith) same_numbers less mine) places few
-      (subst (λ (l : ℕ). l ≤ 16) (sym (ap (λ (z : List SlotView × List ℕ × List ℕ × List ℕ). length z.0) stand)) (kept.home.seats.slots id v me)) shaped dead
+      → Numbers kept.b work (number s) → Rights work (number s) (slot s) s.views → Apart (number s) work
+      → ((d : Desk) → w.locks.db ≡ Some d → Stock d.books d.work w.hand) → rounds_of work ≡ rounds_of kept.work
+      → rounds_view w ≡ rounds_view v → Kept books disk cell body R
+  kept-by-reference work lock desks less mine hands places few stand shaped dead numbers rights apart stock same_work
+      same_rounds =
+      kept-by-word books disk cell body s kept id v w me (reference_word k) x (omega arith) (omega arith) kept.b work
+      lock desks
+      (rest-same books disk cell body s kept id v w me (reference_word k) x hands work (omega arith) same_numbers less
+      mine) places few
+      (subst (λ (l : ℕ). l ≤ 16) (sym (ap (λ (z : List SlotView × List ℕ × List ℕ × List ℕ). length z.0) stand))
+      (kept.home.seats.slots id v me)) shaped dead
       (numbers_same kept.b work (number s) (number R) same_numbers numbers)
-      (rights_stay work work (number s) (number R) (slot s) (slot R) s.views id v w me (low_id books disk cell body s kept id v w me) (λ i. ((stand i).0, (stand i).1)) same_numbers (λ j l. else (slot_word j) (λ z. omega arith)) (λ l f n. refl) (λ j. refl) rights)
+      (rights_stay work work (number s) (number R) (slot s) (slot R) s.views id v w me
+      (low_id books disk cell body s kept id v w me) (λ i. ((stand i).0, (stand i).1)) same_numbers
+      (λ j l. else (slot_word j) (λ z. omega arith)) (λ l f n. refl) (λ j. refl) rights)
       (apart_same (number s) (number R) work same_numbers apart) stock
-      (fresh_stay kept.b kept.b (number s) (number R) s.views id v w me stand (λ f c p e y l. fresh_same kept.b (number s) (number R) same_numbers f c p e y l) kept.fresh)
-      (rounds-work kept.b kept.work work (word s 82) (word R 82) (number s) (number R) s.views id v w me (else 82 (λ z. omega arith)) same_numbers same_work same_rounds kept.rounds)
+      (fresh_stay kept.b kept.b (number s) (number R) s.views id v w me stand
+      (λ f c p e y l. fresh_same kept.b (number s) (number R) same_numbers f c p e y l) kept.fresh)
+      (rounds-work kept.b kept.work work (word s 82) (word R 82) (number s) (number R) s.views id v w me
+      (else 82 (λ z. omega arith)) same_numbers same_work same_rounds kept.rounds)
 
 module _ {S D C B : Type 0} (books : S → Books) (disk : D → Disk) (cell : C → Option Cell) (body : B → Body) where
-  pub adds : (n id : ℕ) (m : Me (Stored S D C B) LaneView) (t k : ℕ) (b : Bodied) → b.pack ≡ pack t k → 0 < t → k < 256 → CanAdd b m.0 → m.0.seat.spent ≡ false → length m.0.hand < most_hand
+  pub adds : (n id : ℕ) (m : Me (Stored S D C B) LaneView) (t k : ℕ) (b : Bodied) → b.pack ≡ pack t k → 0 < t
+      → k < 256 → CanAdd b m.0 → m.0.seat.spent ≡ false → length m.0.hand < most_hand
       → Allows (Kept books disk cell body) n id m (reference_word k) (λ y. (y + 1) % 2 ^ 64) (Added b m)
   adds n id m t k b is pos near has alive room s kept long me fits =
       let p : ℕ = pack t k in let v = m.0 in let w = added b v in let i = reference_word k in
-      let holding : 0 < holders s p = ⊎_elim (λ (z : (0 < holds b.pack v) × In b v.known.bodies). omega (arith, term_le (holds p) s.views id v me, z.0, ap (λ q. holds q v) is))
+      let holding : 0 < holders s p = ⊎_elim (λ (z : (0 < holds b.pack v) × In b v.known.bodies). omega
+      (arith, term_le (holds p) s.views id v me, z.0, ap (λ q. holds q v) is))
       (λ (z : (d : Desk) × (f : ℕ) × (v.locks.db ≡ Some d) × (d.work ≡ idle) × (f < 16) × (b.pack ≡ current_of d.books f) × BodyFits d.books b). let h = kept.home.desks id v me z.0 z.2 in
-      let n : number s z.1 ≡ p = (kept.numbers.word z.1 z.4).current (ap (excepts z.1) (sym h.1 ∙ z.3)) ∙ (ap (λ (y : Books). current_of y z.1) (sym h.0) ∙ (sym z.5 ∙ is)) in
+      let n : number s z.1 ≡ p = (kept.numbers.word z.1 z.4).current (ap (excepts z.1) (sym h.1 ∙ z.3))
+      ∙ (ap (λ (y : Books). current_of y z.1) (sym h.0) ∙ (sym z.5 ∙ is)) in
       omega (arith, below-term_le (λ g. same p (number s g)) z.1 16 z.4, ap (same p) n, same-self p)) has in
       let accounts = kept.in_hand.accounts id v me alive in
-      let fit : BodyFits kept.b b = ⊎_elim (λ (z : (0 < holds b.pack v) × In b v.known.bodies). accounts.fits.bodies z.1.at b z.1.is)
+      let fit : BodyFits kept.b b = ⊎_elim (λ (z : (0 < holds b.pack v) × In b v.known.bodies). accounts.fits.bodies
+      z.1.at b z.1.is)
       (λ (z : (d : Desk) × (f : ℕ) × (v.locks.db ≡ Some d) × (d.work ≡ idle) × (f < 16) × (b.pack ≡ current_of d.books f) × BodyFits d.books b). subst (λ (y : Books). BodyFits y b) (kept.home.desks id v me z.0 z.2).0 z.6) has in
-      let place = held_place kept.b.supers (reference s) (reference s) (holders s) (holders s) (owers s) (owers s) kept.ledger.places t k pos near holding in
+      let place = held_place kept.b.supers (reference s) (reference s) (holders s) (holders s) (owers s) (owers s)
+      kept.ledger.places t k pos near holding in
       let few = holders_few s kept.home.seats kept.ledger.hands p in
       let y : ℕ = word s i in let x : ℕ = (y + 1) % 2 ^ 64 in
       let up : x ≡ y + 1 = omega (arith, place.0, kept.home.seats.views, kept.home.seats.few) in
       let next' : State (Stored S D C B) LaneView = R books disk cell body s kept id v w me k x near in
-      let moved : (q : ℕ) → holders next' q ≡ holders s q + same q p = λ q. let a = holders_by_view s i x s.homes id v w me (λ f l e. omega arith) (λ f l e. omega arith) q in omega (arith, a, ap (same q) is) in
-      let owed : (q : ℕ) → owers next' q ≡ owers s q = λ q. omega (arith, views_move s i x s.homes id v w me (owes q)) in (
+      let moved : (q : ℕ) → holders next' q ≡ holders s q + same q p = λ q. let a = holders_by_view s i x s.homes id v
+      w me (λ f l e. omega arith) (λ f l e. omega arith) q in omega (arith, a, ap (same q) is) in
+      let owed : (q : ℕ) → owers next' q ≡ owers s q = λ q. omega
+      (arith, views_move s i x s.homes id v w me (owes q)) in (
         w,
         keeps,
         tt,
-        kept-by-reference books disk cell body s kept id v w me k x near kept.work (db-same books disk cell body s kept id v w me refl) (owners-same books disk cell body s kept id v w me refl) (λ f z. z)
-            (λ _. accounts-bodies kept.b v.known (b ∷ []) (every_cons (BodyFits kept.b) b [] fit (every_none (BodyFits kept.b))) accounts) refl
-            (places_at kept.b.supers (reference s) (reference next') (holders s) (holders next') (owers s) (owers next') kept.ledger.places t k pos near
+        kept-by-reference books disk cell body s kept id v w me k x near kept.work
+            (db-same books disk cell body s kept id v w me refl)
+            (owners-same books disk cell body s kept id v w me refl) (λ f z. z)
+            (λ _. accounts-bodies kept.b v.known (b ∷ [])
+            (every_cons (BodyFits kept.b) b [] fit (every_none (BodyFits kept.b))) accounts) refl
+            (places_at kept.b.supers (reference s) (reference next') (holders s) (holders next') (owers s)
+            (owers next') kept.ledger.places t k pos near
             (λ j n. word_else s i x s.homes id v w me (reference_word j) (λ e. n (omega arith)))
             (λ q n. omega (arith, moved q, same-else q p (λ e. n (sym e))))
             (λ q n. owed q)
             holding
-            (word_here s i x s.homes id v w me (omega (arith, kept.home.seats.words)) ∙ omega (arith, up, place.0, moved p, same-self p))
+            (word_here s i x s.homes id v w me (omega (arith, kept.home.seats.words))
+            ∙ omega (arith, up, place.0, moved p, same-self p))
             (λ e. absurd (omega (arith, moved p)))
             (λ z. owed p ∙ place.2))
-            (omega arith) refl refl (kept.home.seats.spent id v me) kept.numbers kept.sweep.right kept.sweep.apart (λ d e. stock-more b.pack d.books d.work v.hand (kept.sweep.stock id v me d e)) refl refl,
+            (omega arith) refl refl (kept.home.seats.spent id v me) kept.numbers kept.sweep.right kept.sweep.apart
+            (λ d e. stock-more b.pack d.books d.work v.hand (kept.sweep.stock id v me d e)) refl refl,
         refl,
       )
 
-  pub subs : (n id : ℕ) (m : Me (Stored S D C B) LaneView) (t k : ℕ) → 0 < t → k < 256 → m.0.seat.spent ≡ false → 0 < total (same (pack t k)) m.0.hand → MayDropAt (pack t k) m.0.seat.lanes m.0.hand m.0.locks.db
-      → Allows (Kept books disk cell body) n id m (reference_word k) (λ y. (y + (2 ^ 64 - 1)) % 2 ^ 64) (Dropped (pack t k) m)
+  pub subs : (n id : ℕ) (m : Me (Stored S D C B) LaneView) (t k : ℕ) → 0 < t → k < 256 → m.0.seat.spent ≡ false
+      → 0 < total (same (pack t k)) m.0.hand → MayDropAt (pack t k) m.0.seat.lanes m.0.hand m.0.locks.db
+      → Allows (Kept books disk cell body) n id m (reference_word k) (λ y. (y + (2 ^ 64 - 1)) % 2 ^ 64)
+      (Dropped (pack t k) m)
   subs n id m t k pos near alive has may s kept long me fits =
       let p : ℕ = pack t k in let v = m.0 in let i = reference_word k in
       let holding : 0 < holders s p = omega (arith, term_le (holds p) s.views id v me) in
-      let place = held_place kept.b.supers (reference s) (reference s) (holders s) (holders s) (owers s) (owers s) kept.ledger.places t k pos near holding in
+      let place = held_place kept.b.supers (reference s) (reference s) (holders s) (holders s) (owers s) (owers s)
+      kept.ledger.places t k pos near holding in
       let few = holders_few s kept.home.seats kept.ledger.hands p in
       let y : ℕ = word s i in let x : ℕ = (y + (2 ^ 64 - 1)) % 2 ^ 64 in let w = dropped p (was_last y) v in
       let down : x + 1 ≡ y = omega (arith, place.0, kept.home.seats.views, kept.home.seats.few) in
       let count : y % 4294967296 ≡ holders s p = omega (arith, place.0, kept.home.seats.views, kept.home.seats.few) in
       let next' : State (Stored S D C B) LaneView = R books disk cell body s kept id v w me k x near in
-      let moved : (q : ℕ) → holders next' q + same q p ≡ holders s q = λ q. let a = holders_by_view s i x s.homes id v w me (λ f l e. omega arith) (λ f l e. omega arith) q in omega (arith, total-without p v.hand has q) in
-      let owing : (q : ℕ) (last : Bool) → was_last y ≡ last → owers next' q ≡ owers s q + cond last (same q p) 0 = λ q last e.
-      let a = views_move s i x s.homes id v w me (owes q) in let b : owes q w ≡ total (same q) (cond last (p ∷ v.owes) v.owes) = ap (λ z. total (same q) (cond z (p ∷ v.owes) v.owes)) e in
-      elim last as (λ z. total (same q) (cond last (p ∷ v.owes) v.owes) ≡ total (same q) (cond z (p ∷ v.owes) v.owes) → owers next' q ≡ owers s q + cond z (same q p) 0) [ true ↦ λ c. omega arith | false ↦ λ c. omega arith ] refl in
-      let small : length (without p v.hand) ≤ most_hand = omega (arith, length-without p v.hand, kept.ledger.hands id v me) in
-      let finish : (last : Bool) → was_last y ≡ last → (holders s p ≡ 1 → last ≡ true) → (holders s p ≢ 1 → last ≡ false) → Places kept.b.supers (reference next') (holders next') (owers next') = λ last is one more.
-      places_at kept.b.supers (reference s) (reference next') (holders s) (holders next') (owers s) (owers next') kept.ledger.places t k pos near
+      let moved : (q : ℕ) → holders next' q + same q p ≡ holders s q = λ q. let a = holders_by_view s i x s.homes id v
+      w me (λ f l e. omega arith) (λ f l e. omega arith) q in omega (arith, total-without p v.hand has q) in
+      let owing : (q : ℕ) (last : Bool) → was_last y ≡ last
+      → owers next' q ≡ owers s q + cond last (same q p) 0 = λ q last e.
+      let a = views_move s i x s.homes id v w me (owes q) in
+      let b : owes q w ≡ total (same q) (cond last (p ∷ v.owes) v.owes) = ap
+      (λ z. total (same q) (cond z (p ∷ v.owes) v.owes)) e in
+      elim last as (λ z. total (same q) (cond last (p ∷ v.owes) v.owes) ≡ total (same q) (cond z (p ∷ v.owes) v.owes)
+      → owers next' q ≡ owers s q + cond z (same q p) 0) [ true ↦ λ c. omega arith | false ↦ λ c. omega arith ]
+      refl in
+      let small : length (without p v.hand) ≤ most_hand = omega
+      (arith, length-without p v.hand, kept.ledger.hands id v me) in
+      let finish : (last : Bool) → was_last y ≡ last → (holders s p ≡ 1 → last ≡ true)
+      → (holders s p ≢ 1 → last ≡ false) → Places kept.b.supers (reference next') (holders next') (owers next') =
+      λ last is one more.
+      places_at kept.b.supers (reference s) (reference next') (holders s) (holders next') (owers s) (owers next')
+      kept.ledger.places t k pos near
       (λ j n. word_else s i x s.homes id v w me (reference_word j) (λ e. n (omega arith)))
       (λ q n. omega (arith, moved q, same-else q p (λ e. n (sym e))))
-      (λ q n. owing q last is ∙ elim last as (λ z. owers s q + cond z (same q p) 0 ≡ owers s q) [ true ↦ omega (arith, same-else q p (λ e. n (sym e))) | false ↦ omega arith ])
+      (λ q n. owing q last is ∙ elim last as (λ z. owers s q + cond z (same q p) 0 ≡ owers s q)
+      [ true ↦ omega (arith, same-else q p (λ e. n (sym e))) | false ↦ omega arith ])
       holding
-      (word_here s i x s.homes id v w me (omega (arith, kept.home.seats.words)) ∙ omega (arith, down, place.0, moved p, same-self p))
-      (λ none. let l : last ≡ true = one (omega (arith, moved p, same-self p)) in omega (arith, owing p last is, ap (λ z. cond z (same p p) 0) l, same-self p, place.2))
-      (λ some. let l : last ≡ false = more (λ e. omega (arith, moved p, same-self p)) in omega (arith, owing p last is, ap (λ z. cond z (same p p) 0) l, place.2)) in
+      (word_here s i x s.homes id v w me (omega (arith, kept.home.seats.words))
+      ∙ omega (arith, down, place.0, moved p, same-self p))
+      (λ none. let l : last ≡ true = one (omega (arith, moved p, same-self p)) in
+      omega (arith, owing p last is, ap (λ z. cond z (same p p) 0) l, same-self p, place.2))
+      (λ some. let l : last ≡ false = more (λ e. omega (arith, moved p, same-self p)) in
+      omega (arith, owing p last is, ap (λ z. cond z (same p p) 0) l, place.2)) in
       let places = dite (ℕ_discrete (y % 4294967296) 1)
       (λ e. finish true (eq-eqb (y % 4294967296) 1 e) (λ _. refl) (λ n. absurd (n (sym count ∙ e))))
       (λ ne. finish false (ne_eqb (y % 4294967296) 1 ne) (λ e. absurd (ne (count ∙ e))) (λ _. refl)) in
-      let two_more : 2 ≤ holders s p → was_last y ≡ false = λ z. ne_eqb (y % 4294967296) 1 (λ e. omega (arith, count)) in (
+      let two_more : 2 ≤ holders s p → was_last y ≡ false = λ z. ne_eqb (y % 4294967296) 1
+      (λ e. omega (arith, count)) in (
         w,
         keeps,
         tt,
         by_desk v.locks.db
             (λ none. let stand : w.locks.db ≡ v.locks.db = ap (lowers p) none ∙ sym none in
-            kept-by-reference books disk cell body s kept id v w me k x near kept.work (db-same books disk cell body s kept id v w me stand) (owners-same books disk cell body s kept id v w me stand) (λ f z. z) (λ _. kept.in_hand.accounts id v me alive) (λ i. (v.seat, v.known.task, v.counts.faults, v.locks.cell, option_map (λ (d : Desk). d.due) (stand i), v.joined, v.locks.dir, v.known.lane, v.known.start)) places small refl refl (λ z. absurd (true_not (sym z ∙ alive)))
-            kept.numbers kept.sweep.right kept.sweep.apart (λ d e. absurd (nothing_some (sym none ∙ (sym stand ∙ e)))) refl refl)
-            (λ d is. let h = kept.home.desks id v me d is in let d' : Desk = record { books = d.books; work = lowered p d.work; due = d.due } in let is' : w.locks.db ≡ Some d' = ap (lowers p) is in
+            kept-by-reference books disk cell body s kept id v w me k x near kept.work
+            (db-same books disk cell body s kept id v w me stand)
+            (owners-same books disk cell body s kept id v w me stand) (λ f z. z)
+            (λ _. kept.in_hand.accounts id v me alive)
+            (λ i. (
+              v.seat,
+              v.known.task,
+              v.counts.faults,
+              v.locks.cell,
+              option_map (λ (d : Desk). d.due) (stand i),
+              v.joined,
+              v.locks.dir,
+              v.known.lane,
+              v.known.start,
+            ))
+            places small refl refl (λ z. absurd (true_not (sym z ∙ alive)))
+            kept.numbers kept.sweep.right kept.sweep.apart (λ d e. absurd (nothing_some (sym none ∙ (sym stand ∙ e))))
+            refl refl)
+            (λ d is. let h = kept.home.desks id v me d is in
+            let d' : Desk = record { books = d.books; work = lowered p d.work; due = d.due } in
+            let is' : w.locks.db ≡ Some d' = ap (lowers p) is in
             let ok : WorkOk d.books d.work (number s) (slot s) s.views v.hand = record {
-              numbers = subst (λ (z : Books × Work). Numbers z.0 z.1 (number s)) (λ c. (sym h.0 c, sym h.1 c)) kept.numbers;
+              numbers = subst (λ (z : Books × Work). Numbers z.0 z.1 (number s)) (λ c. (sym h.0 c, sym h.1 c))
+                  kept.numbers;
               right = subst (λ (z : Work). Rights z (number s) (slot s) s.views) (sym h.1) kept.sweep.right;
               apart = subst (λ (z : Work). Apart (number s) z) (sym h.1) kept.sweep.apart;
               stock = kept.sweep.stock id v me d is;
             } in
-            let after = lowers_ok p v.seat.lanes d.books (number s) (slot s) s.views v.hand (omega (arith, kept.home.seats.views, kept.home.seats.told id v me alive)) has d.work (subst (λ (o : Option Desk). MayDropAt p v.seat.lanes v.hand o) is may) ok in
-            kept-by-reference books disk cell body s kept id v w me k x near (lowered p d.work) (db-desk books disk cell body s kept id v w me d d' is is' kept.b (lowered p d.work)) (owners-desk books disk cell body s kept id v w me d d' is is' kept.b (lowered p d.work) h.0 refl) (λ g z. omega (arith, lowered-excepts p d.work g, ap (excepts g) h.1)) (λ _. kept.in_hand.accounts id v me alive) (λ i. (v.seat, v.known.task, v.counts.faults, v.locks.cell, ((ap (option_map (λ (k : Desk). k.due)) is' ∙ sym (ap (option_map (λ (k : Desk). k.due)) is)) i), v.joined, v.locks.dir, v.known.lane, v.known.start)) places small refl refl
-            (λ dead. absurd (spent_alive dead alive)) (subst (λ (z : Books). Numbers z (lowered p d.work) (number s)) h.0 after.numbers) after.right after.apart
-            (λ e z. subst (λ (o : Option Desk). elim o as (λ _. Type 0) [ None ↦ Unit {0} | Some y ↦ Stock y.books y.work (without p v.hand) ]) (sym is' ∙ z) after.stock) (lowered_rounds p d.work ∙ ap rounds_of h.1) refl),
+            let after = lowers_ok p v.seat.lanes d.books (number s) (slot s) s.views v.hand
+            (omega (arith, kept.home.seats.views, kept.home.seats.told id v me alive)) has d.work
+            (subst (λ (o : Option Desk). MayDropAt p v.seat.lanes v.hand o) is may) ok in
+            kept-by-reference books disk cell body s kept id v w me k x near (lowered p d.work)
+            (db-desk books disk cell body s kept id v w me d d' is is' kept.b (lowered p d.work))
+            (owners-desk books disk cell body s kept id v w me d d' is is' kept.b (lowered p d.work) h.0 refl)
+            (λ g z. omega (arith, lowered-excepts p d.work g, ap (excepts g) h.1))
+            (λ _. kept.in_hand.accounts id v me alive)
+            (λ i. (
+              v.seat,
+              v.known.task,
+              v.counts.faults,
+              v.locks.cell,
+              ((ap (option_map (λ (k : Desk). k.due)) is' ∙ sym (ap (option_map (λ (k : Desk). k.due)) is)) i),
+              v.joined,
+              v.locks.dir,
+              v.known.lane,
+              v.known.start,
+            )) places small refl refl
+            (λ dead. absurd (spent_alive dead alive)) (subst (λ (z : Books). Numbers z (lowered p d.work) (number s))
+            h.0 after.numbers) after.right after.apart
+            (λ e z. subst (λ (o : Option Desk). elim o as (λ _. Type 0)
+            [ None ↦ Unit {0} | Some y ↦ Stock y.books y.work (without p v.hand) ]) (sym is' ∙ z) after.stock)
+            (lowered_rounds p d.work ∙ ap rounds_of h.1) refl),
         record {
           is = refl;
           more = λ z. two_more (omega (arith, term_le (holds p) s.views id v me));
-          swept = λ z. two_more (by_desk v.locks.db (λ none. absurd (omega (arith, ap (has_taken_at p) none))) (λ d is. omega (arith, taken_more p d.books d.work v.hand (omega arith) (omega (arith, ap (has_taken_at p) is)) (kept.sweep.stock id v me d is), term_le (holds p) s.views id v me)));
+          swept = λ z. two_more (by_desk v.locks.db (λ none. absurd (omega (arith, ap (has_taken_at p) none)))
+              (λ d is. omega (
+                arith,
+                taken_more p d.books d.work v.hand (omega arith)
+                    (omega (arith, ap (has_taken_at p) is)) (kept.sweep.stock id v me d is),
+                term_le (holds p) s.views id v me,
+              )));
           current = λ d f is resting l e. let h = kept.home.desks id v me d is in
-              let n : number s f ≡ p = (kept.numbers.word f l).current (ap (excepts f) (sym h.1 ∙ resting)) ∙ (ap (λ (z : Books). current_of z f) (sym h.0) ∙ sym e) in
-              two_more (omega (arith, term_le (holds p) s.views id v me, below-term_le (λ g. same p (number s g)) f 16 l, ap (same p) n, same-self p));
+              let n : number s f ≡ p = (kept.numbers.word f l).current (ap (excepts f) (sym h.1 ∙ resting))
+              ∙ (ap (λ (z : Books). current_of z f) (sym h.0) ∙ sym e) in
+              two_more (omega (
+                arith,
+                term_le (holds p) s.views id v me,
+                below-term_le (λ g. same p (number s g)) f 16 l,
+                ap (same p) n,
+                same-self p,
+              ));
         },
       )
     where
@@ -185,12 +292,19 @@ module _ {S D C B : Type 0} (books : S → Books) (disk : D → Disk) (cell : C 
       spent_alive e d = cc
 
   -- the same by the pack
-  pub adds_at : (n id : ℕ) (m : Me (Stored S D C B) LaneView) (b : Bodied) (p : ℕ) → p ≡ b.pack → 256 ≤ p → CanAdd b m.0 → m.0.seat.spent ≡ false → length m.0.hand < most_hand
+  pub adds_at : (n id : ℕ) (m : Me (Stored S D C B) LaneView) (b : Bodied) (p : ℕ) → p ≡ b.pack → 256 ≤ p
+      → CanAdd b m.0 → m.0.seat.spent ≡ false → length m.0.hand < most_hand
       → Allows (Kept books disk cell body) n id m (reference_word (p % 256)) (λ y. (y + 1) % 2 ^ 64) (Added b m)
-  adds_at n id m b p is big has alive room = adds n id m (p / 256) (p % 256) b (omega arith) (omega arith) (omega arith) has alive room
+  adds_at n id m b p is big has alive room = adds n id m (p / 256) (p % 256) b (omega arith) (omega arith)
+      (omega arith) has alive room
 
-  pub subs_at : (n id : ℕ) (m : Me (Stored S D C B) LaneView) (p q : ℕ) → p ≡ q → 256 ≤ p → m.0.seat.spent ≡ false → 0 < total (same p) m.0.hand → MayDropAt p m.0.seat.lanes m.0.hand m.0.locks.db
-      → Allows (Kept books disk cell body) n id m (reference_word (p % 256)) (λ y. (y + (2 ^ 64 - 1)) % 2 ^ 64) (Dropped q m)
+  pub subs_at : (n id : ℕ) (m : Me (Stored S D C B) LaneView) (p q : ℕ) → p ≡ q → 256 ≤ p → m.0.seat.spent ≡ false
+      → 0 < total (same p) m.0.hand → MayDropAt p m.0.seat.lanes m.0.hand m.0.locks.db
+      → Allows (Kept books disk cell body) n id m (reference_word (p % 256)) (λ y. (y + (2 ^ 64 - 1)) % 2 ^ 64)
+      (Dropped q m)
   subs_at n id m p q is big alive has may = let e : pack (p / 256) (p % 256) ≡ p = omega arith in
-      subst (λ (z : ℕ). Allows (Kept books disk cell body) n id m (reference_word (p % 256)) (λ y. (y + (2 ^ 64 - 1)) % 2 ^ 64) (Dropped z m)) (e ∙ is)
-      (subs n id m (p / 256) (p % 256) (omega arith) (omega arith) alive (subst (λ (z : ℕ). 0 < total (same z) m.0.hand) (sym e) has) (subst (λ (z : ℕ). MayDropAt z m.0.seat.lanes m.0.hand m.0.locks.db) (sym e) may))
+      subst (λ (z : ℕ). Allows (Kept books disk cell body) n id m (reference_word (p % 256))
+      (λ y. (y + (2 ^ 64 - 1)) % 2 ^ 64) (Dropped z m)) (e ∙ is)
+      (subs n id m (p / 256) (p % 256) (omega arith) (omega arith) alive
+      (subst (λ (z : ℕ). 0 < total (same z) m.0.hand) (sym e) has)
+      (subst (λ (z : ℕ). MayDropAt z m.0.seat.lanes m.0.hand m.0.locks.db) (sym e) may))

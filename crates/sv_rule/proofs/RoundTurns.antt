@@ -23,7 +23,8 @@ use Rattle.sv_rule.specs.Views.{Joined, LaneView, Load, Work, begun, idle, opens
 use Rattle.sv_rule.proofs.Basics.{each_set, get-past}
 use Rattle.sv_rule.proofs.CurrentLaws.{HasTop, current_big, current_marks, get_lt, has-top, has_current_le, has_current_one, one_family, pack_le, pack_serial, serial_le, some-at}
 use Rattle.sv_rule.proofs.LaterBooks.{pack-after}
-use Rattle.sv_rule.proofs.NumberTurns.{new-is-last, opens-back, opens-long, opens-others}
+use Rattle.sv_rule.proofs.NumberTurns.{opens-back, opens-long, opens-others}
+use Rattle.sv_rule.proofs.NumberWorks.{new-is-last}
 use Rattle.sv_rule.proofs.Stepping.{rounds_view}
 use Rattle.sv_rule.proofs.Sums.{below-put, below-same, same-self, total-set}
 
@@ -46,22 +47,37 @@ rounds_of w = (sets w, begins w, λ f. sets_on f w)
 -- ---- what was loaded
 
 -- a SuperVersion that comes while a work is set or begun is the last
-last_of_all : (b : Books) (work : Work) (number : ℕ → ℕ) (f t : ℕ) → Numbers b work number → f < 16 → IsSerialOf b.supers f t → 0 < excepts f work → t ≡ current_of b f / 256 → t ≡ length b.supers
+last_of_all : (b : Books) (work : Work) (number : ℕ → ℕ) (f t : ℕ) → Numbers b work number → f < 16
+    → IsSerialOf b.supers f t → 0 < excepts f work → t ≡ current_of b f / 256 → t ≡ length b.supers
 last_of_all b work number f t k near of works is =
     let pos = (serial_le b.supers f t of).0 in
-    is ∙ k.top f near works (dite (dec_le 256 (current_of b f)) (λ z. z) (λ z. absurd (omega (arith, current_marks b f (omega arith), ap (λ (y : ℕ). y / 256) (current_marks b f (omega arith))))))
+    is ∙ k.top f near works (dite (dec_le 256 (current_of b f)) (λ z. z)
+    (λ z. absurd (omega (
+      arith,
+      current_marks b f (omega arith),
+      ap (λ (y : ℕ). y / 256) (current_marks b f (omega arith)),
+    ))))
 
 -- the number word as it is loaded
-pub loaded-now : (b : Books) (work : Work) (moved : ℕ) (number : ℕ → ℕ) (f : ℕ) → f < 16 → (0 < begins work → 16 ≤ moved) → Numbers b work number → Loaded b work moved number (record { family = f; pack = number f })
+pub loaded-now : (b : Books) (work : Work) (moved : ℕ) (number : ℕ → ℕ) (f : ℕ) → f < 16
+    → (0 < begins work → 16 ≤ moved) → Numbers b work number
+    → Loaded b work moved number (record { family = f; pack = number f })
 loaded-now b work moved number f near none k = let o = k.word f near in record {
   near = near;
   is = o.is;
   still = λ _. refl;
-  after = λ s big t of past. ⊎_elim (λ z. absurd (omega arith)) (λ z. inr (except_sets f work (dite (ℕ_discrete (begins work) 0) (λ e. e) (λ n. absurd (omega (arith, none (omega arith))))) z.0, z.1)) (o.last big t of);
+  after = λ s big t of past. ⊎_elim (λ z. absurd (omega arith))
+      (λ z. inr (
+        except_sets f work (dite (ℕ_discrete (begins work) 0) (λ e. e)
+            (λ n. absurd (omega (arith, none (omega arith))))) z.0,
+        z.1,
+      )) (o.last big t of);
 }
 
 -- what is loaded in one round was current together
-pub loaded-together : (b : Books) (work : Work) (round : ℕ) (number : ℕ → ℕ) (vs : List LaneView) → Numbers b work number → (r : Rounds b work round number vs) → (loads : List Load) → Every (Loaded b work r.moved number) loads → Together b.supers loads
+pub loaded-together : (b : Books) (work : Work) (round : ℕ) (number : ℕ → ℕ) (vs : List LaneView)
+    → Numbers b work number → (r : Rounds b work round number vs) → (loads : List Load)
+    → Every (Loaded b work r.moved number) loads → Together b.supers loads
 loaded-together b work round number vs k r loads all i x at_x j y at_y two big_x big_y =
     let lx = all i x at_x in
     let ly = all j y at_y in
@@ -69,22 +85,30 @@ loaded-together b work round number vs k r loads all i x at_x j y at_y two big_x
     let of_y = ly.is big_y in record {
       left = of_x;
       right = of_y;
-      none = λ t of past. let other : t ≢ y.pack / 256 = λ e. two (one_family (subst (λ (z : ℕ). IsSerialOf b.supers x.family z) e of) (pack_serial of_y)) in let y_le : y.pack / 256 ≤ length b.supers = pack_le of_y in
+      none = λ t of past. let other : t ≢ y.pack / 256 = λ e. two
+          (one_family (subst (λ (z : ℕ). IsSerialOf b.supers x.family z) e of) (pack_serial of_y)) in
+          let y_le : y.pack / 256 ≤ length b.supers = pack_le of_y in
           dite (ℕ_discrete x.family r.moved)
           (λ m. let y_is : y.pack ≡ number y.family = ly.still (λ z. two (m ∙ sym z)) in
           ⊎_elim
-          (λ (e : t ≡ number x.family / 256). let g = r.greatest (omega (arith, lx.near)) y.family ly.near (omega (arith, ap number m, (serial_le b.supers x.family t of).0)) in omega (arith, ap (λ (z : ℕ). z / 256) y_is, ap (λ (z : ℕ). number z / 256) m))
-          (λ (e : (0 < sets_on x.family work) × (t ≡ current_of b x.family / 256)). omega (arith, last_of_all b work number x.family t k lx.near of (sets_except x.family work e.0) e.1))
+          (λ (e : t ≡ number x.family / 256). let g = r.greatest (omega (arith, lx.near)) y.family ly.near
+          (omega (arith, ap number m, (serial_le b.supers x.family t of).0)) in
+          omega (arith, ap (λ (z : ℕ). z / 256) y_is, ap (λ (z : ℕ). number z / 256) m))
+          (λ (e : (0 < sets_on x.family work) × (t ≡ current_of b x.family / 256)). omega
+          (arith, last_of_all b work number x.family t k lx.near of (sets_except x.family work e.0) e.1))
           (lx.after m big_x t of past))
           (λ n. let x_is : x.pack ≡ number x.family = lx.still n in
           ⊎_elim
           (λ (e : t ≤ number x.family / 256). absurd (omega (arith, ap (λ (z : ℕ). z / 256) x_is)))
-          (λ (e : (0 < excepts x.family work) × (t ≡ current_of b x.family / 256)). omega (arith, last_of_all b work number x.family t k lx.near of e.0 e.1))
+          (λ (e : (0 < excepts x.family work) × (t ≡ current_of b x.family / 256)). omega
+          (arith, last_of_all b work number x.family t k lx.near of e.0 e.1))
           ((k.word x.family lx.near).last (omega (arith, x_is)) t of));
     }
 
 -- where no SuperVersion is new, and number words, currents and what is set stand
-pub loaded-turn : (a b : Books) → After a b → ((f t : ℕ) → IsSerialOf b.supers f t → IsSerialOf a.supers f t) → (work work' : Work) (moved : ℕ) (number₀ number₁ : ℕ → ℕ) → ((f : ℕ) → f < 16 → number₁ f ≡ number₀ f) → ((f : ℕ) → sets_on f work' ≡ sets_on f work) → ((f : ℕ) → 0 < sets_on f work → current_of b f ≡ current_of a f)
+pub loaded-turn : (a b : Books) → After a b → ((f t : ℕ) → IsSerialOf b.supers f t → IsSerialOf a.supers f t)
+    → (work work' : Work) (moved : ℕ) (number₀ number₁ : ℕ → ℕ) → ((f : ℕ) → f < 16 → number₁ f ≡ number₀ f)
+    → ((f : ℕ) → sets_on f work' ≡ sets_on f work) → ((f : ℕ) → 0 < sets_on f work → current_of b f ≡ current_of a f)
     → (x : Load) → Loaded a work moved number₀ x → Loaded b work' moved number₁ x
 loaded-turn a b later back work work' moved number₀ number₁ numbers e currents x h = record {
   near = h.near;
@@ -97,116 +121,202 @@ loaded-turn a b later back work work' moved number₀ number₁ numbers e curren
 }
 
 -- the same where the books stand
-pub loaded-work : (b : Books) (work work' : Work) (moved : ℕ) (number₀ number₁ : ℕ → ℕ) → ((f : ℕ) → f < 16 → number₁ f ≡ number₀ f) → ((f : ℕ) → sets_on f work' ≡ sets_on f work) → (x : Load) → Loaded b work moved number₀ x → Loaded b work' moved number₁ x
-loaded-work b work work' moved number₀ number₁ numbers e = loaded-turn b b (after-itself b) (λ f t s. s) work work' moved number₀ number₁ numbers e (λ f z. refl)
+pub loaded-work : (b : Books) (work work' : Work) (moved : ℕ) (number₀ number₁ : ℕ → ℕ)
+    → ((f : ℕ) → f < 16 → number₁ f ≡ number₀ f) → ((f : ℕ) → sets_on f work' ≡ sets_on f work) → (x : Load)
+    → Loaded b work moved number₀ x → Loaded b work' moved number₁ x
+loaded-work b work work' moved number₀ number₁ numbers e = loaded-turn b b (after-itself b) (λ f t s. s) work work'
+    moved number₀ number₁ numbers e (λ f z. refl)
 
 -- where a SuperVersion is made
-pub loaded-opens : (a b : Books) (later : After a b) (before : Lawful a) (f p : ℕ) (h : Opens a b f p) (moved : ℕ) (number₀ number₁ : ℕ → ℕ) → ((g : ℕ) → g < 16 → number₁ g ≡ number₀ g) → (x : Load) → Loaded a idle moved number₀ x → Loaded b (opens f) moved number₁ x
+pub loaded-opens : (a b : Books) (later : After a b) (before : Lawful a) (f p : ℕ) (h : Opens a b f p) (moved : ℕ)
+    (number₀ number₁ : ℕ → ℕ) → ((g : ℕ) → g < 16 → number₁ g ≡ number₀ g) → (x : Load)
+    → Loaded a idle moved number₀ x → Loaded b (opens f) moved number₁ x
 loaded-opens a b later before f p h moved number₀ number₁ numbers x l = record {
   near = l.near;
   is = λ y. pack-after a b later x.family x.pack (l.is y);
   still = λ n. l.still n ∙ sym (numbers x.family l.near);
   after = λ s y t of past. ⊎_elim
-      (λ old. ⊎_elim (λ z. inl (z ∙ ap (λ (c : ℕ). c / 256) (sym (numbers x.family l.near)))) (λ z. absurd (omega (arith, z.0))) (l.after s y t old past))
-      (λ made. inr (omega (arith, ap (same f) made.1, same-self f), made.0 ∙ sym (ap (λ z. current_of b z / 256) made.1 ∙ ap (λ z. z / 256) h.current)))
+      (λ old. ⊎_elim (λ z. inl (z ∙ ap (λ (c : ℕ). c / 256) (sym (numbers x.family l.near))))
+      (λ z. absurd (omega (arith, z.0))) (l.after s y t old past))
+      (λ made. inr (
+        omega (arith, ap (same f) made.1, same-self f),
+        made.0
+            ∙ sym (ap (λ z. current_of b z / 256) made.1 ∙ ap (λ z. z / 256) h.current),
+      ))
       (opens-back a b later before f p h x.family t of);
 }
 
 -- ---- the part
 
 -- the view of the stepping lane is another, and the rest is as it was
-module _ (a b : Books) (work work' : Work) (round₀ round₁ : ℕ) (number₀ number₁ : ℕ → ℕ) (vs : List LaneView) (id : ℕ) (v w : LaneView) (me : get_elem? vs id ≡ some v) (rounds : round₁ ≡ round₀) (numbers : (f : ℕ) → f < 16 → number₁ f ≡ number₀ f) where
-  pub rounds-set : begins work' ≡ begins work → (old : Rounds a work round₀ number₀ vs) → ((x : Load) → Loaded a work old.moved number₀ x → Loaded b work' old.moved number₁ x) → round₀ + below (has_current b) 16 + sets work' ≤ length b.supers + length b.families
-      → all_adds w ≡ all_adds v → w.known.round ≤ round₀ → (w.known.round ≡ round₀ → Every (Loaded b work' old.moved number₁) w.loads) → Rounds b work' round₁ number₁ (set vs id w)
+module _ (a b : Books) (work work' : Work) (round₀ round₁ : ℕ) (number₀ number₁ : ℕ → ℕ) (vs : List LaneView) (id : ℕ)
+    (v w : LaneView) (me : get_elem? vs id ≡ some v) (rounds : round₁ ≡ round₀)
+    (numbers : (f : ℕ) → f < 16 → number₁ f ≡ number₀ f) where
+  pub rounds-set : begins work' ≡ begins work → (old : Rounds a work round₀ number₀ vs)
+      → ((x : Load) → Loaded a work old.moved number₀ x → Loaded b work' old.moved number₁ x)
+      → round₀ + below (has_current b) 16 + sets work' ≤ length b.supers + length b.families
+      → all_adds w ≡ all_adds v → w.known.round ≤ round₀
+      → (w.known.round ≡ round₀ → Every (Loaded b work' old.moved number₁) w.loads)
+      → Rounds b work' round₁ number₁ (set vs id w)
   rounds-set same_begins old loads_on bound adds low loaded = record {
     moved = old.moved;
     begun_none = λ z. old.begun_none (omega (arith, same_begins));
-    greatest = λ m g l big. omega (arith, old.greatest m g l (omega (arith, numbers old.moved m)), numbers old.moved m, numbers g l);
+    greatest = λ m g l big. omega (
+      arith,
+      old.greatest m g l (omega (arith, numbers old.moved m)),
+      numbers old.moved m,
+      numbers g l,
+    );
     sum = omega (arith, rounds, old.sum, total-set all_adds vs id v w me, adds);
     bound = omega (arith, rounds);
-    low = each_set (λ j u. u.known.round ≤ round₁) vs id w (omega (arith, rounds)) (λ j u e. omega (arith, old.low j u e, rounds));
-    loaded = each_set (λ j u. u.known.round ≡ round₁ → Every (Loaded b work' old.moved number₁) u.loads) vs id w (λ z. loaded (z ∙ rounds)) (λ j u e z i x y. loads_on x (old.loaded j u e (z ∙ rounds) i x y));
+    low = each_set (λ j u. u.known.round ≤ round₁) vs id w (omega (arith, rounds))
+        (λ j u e. omega (arith, old.low j u e, rounds));
+    loaded = each_set (λ j u. u.known.round ≡ round₁ → Every (Loaded b work' old.moved number₁) u.loads) vs id w
+        (λ z. loaded (z ∙ rounds)) (λ j u e z i x y. loads_on x (old.loaded j u e (z ∙ rounds) i x y));
   }
 
   -- the same where the view says the same of rounds
-  pub rounds-on : begins work' ≡ begins work → (old : Rounds a work round₀ number₀ vs) → ((x : Load) → Loaded a work old.moved number₀ x → Loaded b work' old.moved number₁ x) → round₀ + below (has_current b) 16 + sets work' ≤ length b.supers + length b.families
+  pub rounds-on : begins work' ≡ begins work → (old : Rounds a work round₀ number₀ vs)
+      → ((x : Load) → Loaded a work old.moved number₀ x → Loaded b work' old.moved number₁ x)
+      → round₀ + below (has_current b) 16 + sets work' ≤ length b.supers + length b.families
       → rounds_view w ≡ rounds_view v → Rounds b work' round₁ number₁ (set vs id w)
   rounds-on same_begins old loads_on bound stand = rounds-set same_begins old loads_on bound
       (ap (λ (z : ℕ × List Load × ℕ × List Joined). z.2 + total (λ (o : Joined). o.counts.adds) z.3) stand)
       (omega (arith, old.low id v me, ap (λ (z : ℕ × List Load × ℕ × List Joined). z.0) stand))
-      (subst (λ (z : ℕ × List Load × ℕ × List Joined). z.0 ≡ round₀ → Every (Loaded b work' old.moved number₁) z.1) (sym stand) (λ z i x y. loads_on x (old.loaded id v me z i x y)))
+      (subst (λ (z : ℕ × List Load × ℕ × List Joined). z.0 ≡ round₀ → Every (Loaded b work' old.moved number₁) z.1)
+      (sym stand) (λ z i x y. loads_on x (old.loaded id v me z i x y)))
 
 -- a step that leaves books, rounds and number words
-pub rounds-work : (b : Books) (work work' : Work) (round₀ round₁ : ℕ) (number₀ number₁ : ℕ → ℕ) (vs : List LaneView) (id : ℕ) (v w : LaneView) → get_elem? vs id ≡ some v → round₁ ≡ round₀ → ((f : ℕ) → f < 16 → number₁ f ≡ number₀ f) → rounds_of work' ≡ rounds_of work
+pub rounds-work : (b : Books) (work work' : Work) (round₀ round₁ : ℕ) (number₀ number₁ : ℕ → ℕ) (vs : List LaneView)
+    (id : ℕ) (v w : LaneView) → get_elem? vs id ≡ some v → round₁ ≡ round₀
+    → ((f : ℕ) → f < 16 → number₁ f ≡ number₀ f) → rounds_of work' ≡ rounds_of work
     → rounds_view w ≡ rounds_view v → Rounds b work round₀ number₀ vs → Rounds b work' round₁ number₁ (set vs id w)
-rounds-work b work work' round₀ round₁ number₀ number₁ vs id v w me rounds numbers e stand old = rounds-on b b work work' round₀ round₁ number₀ number₁ vs id v w me rounds numbers (ap (λ (z : ℕ × ℕ × (ℕ → ℕ)). z.1) e) old
-    (loaded-work b work work' old.moved number₀ number₁ numbers (λ f. ap (λ (z : ℕ × ℕ × (ℕ → ℕ)). z.2 f) e)) (omega (arith, old.bound, ap (λ (z : ℕ × ℕ × (ℕ → ℕ)). z.0) e)) stand
+rounds-work b work work' round₀ round₁ number₀ number₁ vs id v w me rounds numbers e stand old = rounds-on b b work
+    work' round₀ round₁ number₀ number₁ vs id v w me rounds numbers (ap (λ (z : ℕ × ℕ × (ℕ → ℕ)). z.1) e) old
+    (loaded-work b work work' old.moved number₀ number₁ numbers (λ f. ap (λ (z : ℕ × ℕ × (ℕ → ℕ)). z.2 f) e))
+    (omega (arith, old.bound, ap (λ (z : ℕ × ℕ × (ℕ → ℕ)). z.0) e)) stand
 
 -- ---- the bound
 
 -- as many families have a current
-pub has-current-same : (a b : Books) → ((f : ℕ) → current_of b f ≡ current_of a f) → below (has_current b) 16 ≡ below (has_current a) 16
+pub has-current-same : (a b : Books) → ((f : ℕ) → current_of b f ≡ current_of a f)
+    → below (has_current b) 16 ≡ below (has_current a) 16
 has-current-same a b e = below-same (has_current a) (has_current b) 16 (λ k _. ap (λ c. cond (c == 0) 0 1) (e k))
 
 -- one family more, or another current of one
-pub bound-opens : (a b : Books) (later : After a b) (before : Lawful a) (lawful : Lawful b) (f p round : ℕ) (h : Opens a b f p) → f < 16 → 256 ≤ p → round + below (has_current a) 16 + 0 ≤ length a.supers + length a.families → round + below (has_current b) 16 + 1 ≤ length b.supers + length b.families
+pub bound-opens : (a b : Books) (later : After a b) (before : Lawful a) (lawful : Lawful b) (f p round : ℕ)
+    (h : Opens a b f p) → f < 16 → 256 ≤ p → round + below (has_current a) 16 + 0 ≤ length a.supers + length
+    a.families → round + below (has_current b) 16 + 1 ≤ length b.supers + length b.families
 bound-opens a b later before lawful f p round h near big old =
-    let moved = below-put (has_current a) (has_current b) f 16 near (λ k n. ap (λ c. cond (c == 0) 0 1) (opens-others a b later before f p h k n)) in
+    let moved = below-put (has_current a) (has_current b) f 16 near
+    (λ k n. ap (λ c. cond (c == 0) 0 1) (opens-others a b later before f p h k n)) in
     let now = has_current_one b f (omega (arith, h.current)) in
     let long = opens-long a b later before f p h in
     ⊎_elim
     (λ (had : has_current a f ≡ 1). omega (arith, old, moved, now, had, long, h.serial, h.families.long))
-    (λ (new : length a.families + 1 ≤ length b.families). omega (arith, old, moved, now, has_current_le a f, long, h.serial, new))
+    (λ (new : length a.families + 1 ≤ length b.families). omega
+    (arith, old, moved, now, has_current_le a f, long, h.serial, new))
     (by_top (slice_get a.tops f) refl)
   where
     t : HasTop b f
     t = has-top b lawful f (omega (arith, h.current))
 
-    by_top : (o : Option Top) → slice_get a.tops f ≡ o → (has_current a f ≡ 1) ⊎ (length a.families + 1 ≤ length b.families)
+    by_top : (o : Option Top) → slice_get a.tops f ≡ o → (has_current a f ≡ 1)
+        ⊎ (length a.families + 1 ≤ length b.families)
     by_top None e = inr (omega (arith, get-past a.tops f e, get_lt b.families f t.family t.family_at, before.paired))
     by_top (Some x) e =
         let s = h.had x e in
         let y = some-at a.families f (omega (arith, get_lt a.tops f x e, before.paired)) in
-        inl (has_current_one a f (current_big a before f record { family = y.0; family_at = y.1; top = x; top_at = e; serial = s.0; is = s.1 }))
+        inl (has_current_one a f (current_big a before f record {
+          family = y.0;
+          family_at = y.1;
+          top = x;
+          top_at = e;
+          serial = s.0;
+          is = s.1;
+        }))
 
 -- ---- the round word rises
 
-pub rounds-rise : (a b : Books) (work : Work) (f round₀ round₁ : ℕ) (number₀ number₁ : ℕ → ℕ) (vs : List LaneView) (id : ℕ) (v w : LaneView) → get_elem? vs id ≡ some v → round₁ ≡ round₀ + 1 → round₀ + 1 + below (has_current b) 16 ≤ length b.supers + length b.families → w.known.round ≡ v.known.round → w.counts.adds ≡ v.counts.adds + 1 → w.joined ≡ v.joined
+pub rounds-rise : (a b : Books) (work : Work) (f round₀ round₁ : ℕ) (number₀ number₁ : ℕ → ℕ) (vs : List LaneView)
+    (id : ℕ) (v w : LaneView) → get_elem? vs id ≡ some v → round₁ ≡ round₀ + 1
+    → round₀ + 1 + below (has_current b) 16 ≤ length b.supers + length b.families → w.known.round ≡ v.known.round
+    → w.counts.adds ≡ v.counts.adds + 1 → w.joined ≡ v.joined
     → Rounds a work round₀ number₀ vs → Rounds b (begun f) round₁ number₁ (set vs id w)
 rounds-rise a b work f round₀ round₁ number₀ number₁ vs id v w me rises bound same_round adds joined old = record {
   moved = 16;
   begun_none = λ _. omega arith;
   greatest = λ m. absurd (omega arith);
-  sum = omega (arith, rises, old.sum, total-set all_adds vs id v w me, adds, ap (λ (z : List Joined). total (λ (o : Joined). o.counts.adds) z) joined);
+  sum = omega (
+    arith,
+    rises,
+    old.sum,
+    total-set all_adds vs id v w me,
+    adds,
+    ap (λ (z : List Joined). total (λ (o : Joined). o.counts.adds) z) joined,
+  );
   bound = omega (arith, rises, bound);
-  low = each_set (λ j u. u.known.round ≤ round₁) vs id w (omega (arith, old.low id v me, same_round)) (λ j u e. omega (arith, old.low j u e));
-  loaded = each_set (λ j u. u.known.round ≡ round₁ → Every (Loaded b (begun f) 16 number₁) u.loads) vs id w (λ z. absurd (omega (arith, old.low id v me, same_round))) (λ j u e z. absurd (omega (arith, old.low j u e)));
+  low = each_set (λ j u. u.known.round ≤ round₁) vs id w (omega (arith, old.low id v me, same_round))
+      (λ j u e. omega (arith, old.low j u e));
+  loaded = each_set (λ j u. u.known.round ≡ round₁ → Every (Loaded b (begun f) 16 number₁) u.loads) vs id w
+      (λ z. absurd (omega (arith, old.low id v me, same_round))) (λ j u e z. absurd (omega (arith, old.low j u e)));
 }
 
 -- ---- the number word of a begun work becomes the current
 
-module _ (b : Books) (f : ℕ) (near : f < 16) (round₀ round₁ : ℕ) (number₀ number₁ : ℕ → ℕ) (k : Numbers b (begun f) number₀) (here : number₁ f ≡ current_of b f) (else : (g : ℕ) → g < 16 → g ≢ f → number₁ g ≡ number₀ g) where
-  load-moves : (old m taken : ℕ) (mid : Bool) (moved : ℕ) → 16 ≤ moved → (x : Load) → Loaded b (begun f) moved number₀ x → Loaded b (sweeping f old m mid taken) f number₁ x
+module _ (b : Books) (f : ℕ) (near : f < 16) (round₀ round₁ : ℕ) (number₀ number₁ : ℕ → ℕ)
+    (k : Numbers b (begun f) number₀) (here : number₁ f ≡ current_of b f)
+    (else : (g : ℕ) → g < 16 → g ≢ f → number₁ g ≡ number₀ g) where
+  load-moves : (old m taken : ℕ) (mid : Bool) (moved : ℕ) → 16 ≤ moved → (x : Load)
+      → Loaded b (begun f) moved number₀ x → Loaded b (sweeping f old m mid taken) f number₁ x
   load-moves old m taken mid moved none x l = record {
     near = l.near;
     is = l.is;
     still = λ n. l.still (λ e. omega (arith, l.near)) ∙ sym (else x.family l.near n);
-    after = λ s big t of past. let q_is : x.pack ≡ number₀ x.family = l.still (λ e. omega (arith, l.near)) in ⊎_elim (λ z. absurd (omega (arith, ap (λ (y : ℕ). y / 256) q_is))) (λ z. inl (z.1 ∙ ap (λ (y : ℕ). y / 256) (ap (current_of b) s ∙ (sym here ∙ ap number₁ (sym s))))) ((k.word x.family l.near).last (omega (arith, q_is)) t of);
+    after = λ s big t of past. let q_is : x.pack ≡ number₀ x.family = l.still (λ e. omega (arith, l.near)) in
+        ⊎_elim (λ z. absurd (omega (arith, ap (λ (y : ℕ). y / 256) q_is)))
+        (λ z. inl (z.1 ∙ ap (λ (y : ℕ). y / 256) (ap (current_of b) s ∙ (sym here ∙ ap number₁ (sym s)))))
+        ((k.word x.family l.near).last (omega (arith, q_is)) t of);
   }
 
-  pub rounds-moved : (old m taken : ℕ) (mid : Bool) (vs : List LaneView) (id : ℕ) (v w : LaneView) → get_elem? vs id ≡ some v → round₁ ≡ round₀ → rounds_view w ≡ rounds_view v → Rounds b (begun f) round₀ number₀ vs → Rounds b (sweeping f old m mid taken) round₁ number₁ (set vs id w)
-  rounds-moved old m taken mid vs id v w me same_round stand r = let none : 16 ≤ r.moved = r.begun_none (omega arith) in let on = load-moves old m taken mid r.moved none in record {
-    moved = f;
-    begun_none = λ z. absurd (omega arith);
-    greatest = λ _ g l big. dite (ℕ_discrete g f)
-        (λ e. omega (arith, ap number₁ e))
-        (λ n. let o = k.word g l in dite (dec_le 256 (number₀ g))
-        (λ y. omega (arith, pack_le (o.is y), new-is-last b f near number₀ number₁ k here else (omega (arith, here)), here, else g l n))
-        (λ y. omega (arith, o.marks (omega arith), else g l n, ap (λ (z : ℕ). z / 256) (else g l n ∙ o.marks (omega arith)))));
-    sum = omega (arith, same_round, r.sum, total-set all_adds vs id v w me, ap (λ (z : ℕ × List Load × ℕ × List Joined). z.2 + total (λ (o : Joined). o.counts.adds) z.3) stand);
-    bound = omega (arith, same_round, r.bound);
-    low = each_set (λ j u. u.known.round ≤ round₁) vs id w (omega (arith, r.low id v me, same_round, ap (λ (z : ℕ × List Load × ℕ × List Joined). z.0) stand)) (λ j u e. omega (arith, r.low j u e, same_round));
-    loaded = each_set (λ j u. u.known.round ≡ round₁ → Every (Loaded b (sweeping f old m mid taken) f number₁) u.loads) vs id w
-        (subst (λ (z : ℕ × List Load × ℕ × List Joined). z.0 ≡ round₁ → Every (Loaded b (sweeping f old m mid taken) f number₁) z.1) (sym stand) (λ z i x y. on x (r.loaded id v me (z ∙ same_round) i x y)))
-        (λ j u e z i x y. on x (r.loaded j u e (z ∙ same_round) i x y));
-  }
+  pub rounds-moved : (old m taken : ℕ) (mid : Bool) (vs : List LaneView) (id : ℕ) (v w : LaneView)
+      → get_elem? vs id ≡ some v → round₁ ≡ round₀ → rounds_view w ≡ rounds_view v
+      → Rounds b (begun f) round₀ number₀ vs → Rounds b (sweeping f old m mid taken) round₁ number₁ (set vs id w)
+  rounds-moved old m taken mid vs id v w me same_round stand r = let none : 16 ≤ r.moved = r.begun_none
+      (omega arith) in let on = load-moves old m taken mid r.moved none in record {
+        moved = f;
+        begun_none = λ z. absurd (omega arith);
+        greatest = λ _ g l big. dite (ℕ_discrete g f)
+            (λ e. omega (arith, ap number₁ e))
+            (λ n. let o = k.word g l in dite (dec_le 256 (number₀ g))
+            (λ y. omega (
+              arith,
+              pack_le (o.is y),
+              new-is-last b f near number₀ number₁ k here else (omega (arith, here)),
+              here,
+              else g l n,
+            ))
+            (λ y. omega (
+              arith,
+              o.marks (omega arith),
+              else g l n,
+              ap (λ (z : ℕ). z / 256) (else g l n ∙ o.marks (omega arith)),
+            )));
+        sum = omega (
+          arith,
+          same_round,
+          r.sum,
+          total-set all_adds vs id v w me,
+          ap (λ (z : ℕ × List Load × ℕ × List Joined). z.2 + total (λ (o : Joined). o.counts.adds) z.3) stand,
+        );
+        bound = omega (arith, same_round, r.bound);
+        low = each_set (λ j u. u.known.round ≤ round₁) vs id w
+            (omega (arith, r.low id v me, same_round, ap (λ (z : ℕ × List Load × ℕ × List Joined). z.0) stand))
+            (λ j u e. omega (arith, r.low j u e, same_round));
+        loaded = each_set (λ j u. u.known.round ≡ round₁ → Every (Loaded b (sweeping f old m mid taken) f number₁)
+            u.loads) vs id w
+            (subst (λ (z : ℕ × List Load × ℕ × List Joined). z.0 ≡ round₁
+            → Every (Loaded b (sweeping f old m mid taken) f number₁) z.1) (sym stand)
+            (λ z i x y. on x (r.loaded id v me (z ∙ same_round) i x y)))
+            (λ j u e z i x y. on x (r.loaded j u e (z ∙ same_round) i x y));
+      }

@@ -47,7 +47,8 @@ unfolding alive_one
 is_alive u e = ap (λ (q : Bool). cond q 0 1) e
 
 -- where two seats stand, none has all lanes
-two_seats : {A : Type 0} (s : State A LaneView) → Seats s → (f j : ℕ) (u : LaneView) → get_elem? s.views j ≡ some u → IsClosing f u → (k : ℕ) (y : LaneView) → get_elem? s.views k ≡ some y → k ≢ j → y.seat.spent ≡ false → ⊥
+two_seats : {A : Type 0} (s : State A LaneView) → Seats s → (f j : ℕ) (u : LaneView) → get_elem? s.views j ≡ some u
+    → IsClosing f u → (k : ℕ) (y : LaneView) → get_elem? s.views k ≡ some y → k ≢ j → y.seat.spent ≡ false → ⊥
 two_seats s sh f j u at_u c k y at_y ne alive = omega (
   arith,
   terms_le alive_one s.views j k u y ne at_u at_y,
@@ -65,22 +66,38 @@ module _ {S D C B : Type 0} (books : S → Books) (disk : D → Disk) (cell : C 
   idle_holds : (w : LaneView) → IsIdle w → (q : ℕ) → holds q w ≡ 0
   idle_holds w h q = omega (arith, names_none q w.slots.slot h.slots, ap (total (same q)) h.hand)
 
-  moves : (s : State (Stored S D C B) LaneView) (kept : Kept books disk cell body s) (id : ℕ) (v : LaneView) (me : get_elem? s.views id ≡ some v) (other : ℕ) (w : LaneView) → other ≢ id → get_elem? s.views other ≡ some w → get_elem? (set s.views id (gathered v w)) other ≡ some w → v.seat.spent ≡ false → IsIdle w
+  moves : (s : State (Stored S D C B) LaneView) (kept : Kept books disk cell body s) (id : ℕ) (v : LaneView)
+      (me : get_elem? s.views id ≡ some v) (other : ℕ) (w : LaneView) → other ≢ id → get_elem? s.views other ≡ some w
+      → get_elem? (set s.views id (gathered v w)) other ≡ some w → v.seat.spent ≡ false → IsIdle w
       → Moves s.views (set (set s.views id (gathered v w)) other nobody) other id v (gathered v w) nobody (λ g. g w)
   moves s kept id v me other w apart there them alive bare =
       let b = gathered v w in let vs = set s.views id b in let ws = set vs other nobody in
-      let spots : (P : LaneView → LaneView → Type 0) → ((u : LaneView) → P u u) → P b v → P nobody w → (k : ℕ) → P (at nobody ws k) (at nobody s.views k) = λ P same_all left right k.
+      let spots : (P : LaneView → LaneView → Type 0) → ((u : LaneView) → P u u) → P b v → P nobody w → (k : ℕ)
+      → P (at nobody ws k) (at nobody s.views k) = λ P same_all left right k.
       dite (ℕ_discrete k other)
-      (λ e. subst (λ (z : LaneView × LaneView). P z.0 z.1) (λ c. (sym (ap (at nobody ws) e ∙ at-set_same nobody vs other w nobody them) c, sym (ap (at nobody s.views) e ∙ at-is nobody s.views other w there) c)) right)
+      (λ e. subst (λ (z : LaneView × LaneView). P z.0 z.1)
+      (λ c. (
+        sym (ap (at nobody ws) e ∙ at-set_same nobody vs other w nobody them) c,
+        sym (ap (at nobody s.views) e ∙ at-is nobody s.views other w there) c,
+      )) right)
       (λ n. subst (λ (z : LaneView). P z (at nobody s.views k)) (sym (at-set_else nobody vs other k nobody n))
       (dite (ℕ_discrete k id)
-      (λ e. subst (λ (z : LaneView × LaneView). P z.0 z.1) (λ c. (sym (ap (at nobody vs) e ∙ at-set_same nobody s.views id v b me) c, sym (ap (at nobody s.views) e ∙ at-is nobody s.views id v me) c)) left)
-      (λ m. subst (λ (z : LaneView). P z (at nobody s.views k)) (sym (at-set_else nobody s.views id k b m)) (same_all (at nobody s.views k))))) in
+      (λ e. subst (λ (z : LaneView × LaneView). P z.0 z.1)
+      (λ c. (
+        sym (ap (at nobody vs) e ∙ at-set_same nobody s.views id v b me) c,
+        sym (ap (at nobody s.views) e ∙ at-is nobody s.views id v me) c,
+      )) left)
+      (λ m. subst (λ (z : LaneView). P z (at nobody s.views k)) (sym (at-set_else nobody s.views id k b m))
+      (same_all (at nobody s.views k))))) in
       let lone : has_db w ≡ 0 = db_none w bare.db in
       record {
         both = λ P new mine all. each_set P vs other nobody new (each_set P s.views id b mine all);
         sum = λ g. omega (arith, total-set g s.views id v b me, total-set g vs other w nobody them);
-        spots = λ m f. (spots (λ a c. at 0 a.slots.cached f ≡ at 0 c.slots.cached f) (λ u. refl) refl (sym (bare.cached f)) m, spots (λ a c. slot_of a f ≡ slot_of c f) (λ u. refl) refl (sym (bare.slots f)) m);
+        spots = λ m f. (
+          spots (λ a c. at 0 a.slots.cached f ≡ at 0 c.slots.cached f) (λ u. refl) refl
+              (sym (bare.cached f)) m,
+          spots (λ a c. slot_of a f ≡ slot_of c f) (λ u. refl) refl (sym (bare.slots f)) m,
+        );
         holders = λ q. idle_holds w bare q;
         owers = λ q. ap (total (same q)) bare.owes;
         db = lone;
@@ -92,12 +109,27 @@ module _ {S D C B : Type 0} (books : S → Books) (disk : D → Disk) (cell : C 
         grabbed = λ n. ap (λ o. total (λ (m : Mark). same n m.number) (marks_of o)) bare.job;
         jobs = ap job_count bare.job;
         holds_none = λ m. zero-cond (w.known.lane == m) w.known.task.holds bare.holds;
-        handles_none = λ m f pos. zero-cond (w.known.lane == m) (times f w.known.task.handles) (ap (times f) bare.handles ∙ let z : times f (0 ∷ []) ≡ 0 = omega (arith, same-else f 0 (λ e. omega (arith, pos, e))) in z);
-        removed = λ n. omega (arith, total-append (λ (o : Joined). times n o.known.task.removed) v.joined (kept_of w ∷ w.joined));
-        ended = λ n. omega (arith, total-append (λ (o : Joined). times n o.known.task.ended) v.joined (kept_of w ∷ w.joined));
+        handles_none = λ m f pos. zero-cond (w.known.lane == m) (times f w.known.task.handles)
+            (ap (times f) bare.handles ∙ let z : times f (0 ∷ []) ≡ 0 = omega
+            (arith, same-else f 0 (λ e. omega (arith, pos, e))) in z);
+        removed = λ n. omega (
+          arith,
+          total-append (λ (o : Joined). times n o.known.task.removed) v.joined
+              (kept_of w ∷ w.joined),
+        );
+        ended = λ n. omega (
+          arith,
+          total-append (λ (o : Joined). times n o.known.task.ended) v.joined
+              (kept_of w ∷ w.joined),
+        );
         faults_on = omega (arith, total-append (λ (o : Joined). o.counts.faults) v.joined (kept_of w ∷ w.joined));
         adds = omega (arith, total-append (λ (o : Joined). o.counts.adds) v.joined (kept_of w ∷ w.joined));
-        lanes_on = λ m. omega (arith, total-append (λ (o : Joined). same m o.known.lane) v.joined (kept_of w ∷ w.joined), own m w.seat.spent bare.alive);
+        lanes_on = λ m. omega (
+          arith,
+          total-append (λ (o : Joined). same m o.known.lane) v.joined
+              (kept_of w ∷ w.joined),
+          own m w.seat.spent bare.alive,
+        );
         closing = λ f z. dite (ℕ_discrete z.0 id)
             (λ e. absurd (two_seats s kept.home.seats f z.0 z.1 z.2 z.3 other w there (λ q. apart (q ∙ e)) bare.alive))
             (λ n. dite (ℕ_discrete z.0 other)
@@ -108,7 +140,8 @@ module _ {S D C B : Type 0} (books : S → Books) (disk : D → Disk) (cell : C 
       own : (m : ℕ) (q : Bool) → q ≡ false → own_lane m q w.known ≡ same m w.known.lane
       own m q e = ap (λ z. cond z 0 (same m w.known.lane)) e
 
-  pub joins : (id : ℕ) (v : LaneView) (other : ℕ) (w : LaneView) → v.seat.spent ≡ false → IsIdle w → Joins (Kept {S = S} {D = D} {C = C} {B = B} books disk cell body) id v other w (gathered v w) nobody
+  pub joins : (id : ℕ) (v : LaneView) (other : ℕ) (w : LaneView) → v.seat.spent ≡ false → IsIdle w
+      → Joins (Kept {S = S} {D = D} {C = C} {B = B} books disk cell body) id v other w (gathered v w) nobody
   joins id v other w alive bare s kept me apart them =
       let b = gathered v w in let vs = set s.views id b in let ws = set vs other nobody in
       let sh = kept.home.seats in
@@ -116,19 +149,24 @@ module _ {S D C B : Type 0} (books : S → Books) (disk : D → Disk) (cell : C 
       let long : length ws ≡ length s.views = length-set vs other nobody ∙ length-set s.views id b in
       let move = moves s kept id v me other w apart there them alive bare in
       let both = move.both in
-      let own : (m : ℕ) → own_lane m w.seat.spent w.known ≡ same m w.known.lane = λ m. ap (λ z. cond z 0 (same m w.known.lane)) bare.alive in
+      let own : (m : ℕ) → own_lane m w.seat.spent w.known ≡ same m w.known.lane = λ m. ap
+      (λ z. cond z 0 (same m w.known.lane)) bare.alive in
       let one : Bool → ℕ = λ y. cond y 1 0 in
-      kept-by-seats books disk cell body s kept id v me v.seat nobody.seat b.joined 0 no_start [] ws other (λ g. g w) move refl alive
+      kept-by-seats books disk cell body s kept id v me v.seat nobody.seat b.joined 0 no_start [] ws other (λ g. g w)
+      move refl alive
       record {
         words = sh.words;
         homes = sh.homes;
         given = sh.given;
         few = sh.few;
         views = omega (arith, long, sh.views);
-        told = both (λ j u. u.seat.spent ≡ false → u.seat.lanes ≡ sh.given) (λ e. absurd (true_not e)) (sh.told id v me) sh.told;
+        told = both (λ j u. u.seat.spent ≡ false → u.seat.lanes ≡ sh.given) (λ e. absurd (true_not e))
+            (sh.told id v me) sh.told;
         made = subst (λ (z : ℕ). Each (λ j u. 0 < u.seat.made → (j ≡ 0) × (u.seat.made ≡ z)) ws) (sym long)
-            (both (λ j u. 0 < u.seat.made → (j ≡ 0) × (u.seat.made ≡ length s.views)) (λ z. absurd (omega arith)) (sh.made id v me) sh.made);
-        ordered = both (λ j u. u.seat.spent ≡ false → u.known.lane ≡ j) (λ e. absurd (true_not e)) (sh.ordered id v me) sh.ordered;
+            (both (λ j u. 0 < u.seat.made → (j ≡ 0) × (u.seat.made ≡ length s.views)) (λ z. absurd (omega arith))
+            (sh.made id v me) sh.made);
+        ordered = both (λ j u. u.seat.spent ≡ false → u.known.lane ≡ j) (λ e. absurd (true_not e))
+            (sh.ordered id v me) sh.ordered;
         slots = both (λ j u. length u.slots.slot ≤ 16) (omega arith) (sh.slots id v me) sh.slots;
         spent = both (λ j u. u.seat.spent ≡ true → u.locks ≡ no_locks) (λ _. refl) (sh.spent id v me) sh.spent;
         joined = omega (
@@ -142,13 +180,26 @@ module _ {S D C B : Type 0} (books : S → Books) (disk : D → Disk) (cell : C 
           length-append v.joined (kept_of w ∷ w.joined),
         );
         below = subst (λ (z : ℕ). Each (λ j u. Every (λ o. o.known.lane < z) u.joined) ws) (sym long)
-            (both (λ j u. Every (λ o. o.known.lane < length s.views) u.joined) (every_none (λ o. o.known.lane < length s.views))
+            (both (λ j u. Every (λ o. o.known.lane < length s.views) u.joined)
+            (every_none (λ o. o.known.lane < length s.views))
             (every_append (λ o. o.known.lane < length s.views) v.joined (kept_of w ∷ w.joined) (sh.below id v me)
-            (every_cons (λ o. o.known.lane < length s.views) (kept_of w) w.joined (omega (arith, sh.ordered other w there bare.alive, at_lt s.views other w there)) (sh.below other w there)))
+            (every_cons (λ o. o.known.lane < length s.views) (kept_of w) w.joined
+            (omega (arith, sh.ordered other w there bare.alive, at_lt s.views other w there))
+            (sh.below other w there)))
             sh.below);
-        once = λ m. omega (arith, move.sum (lanes m), total-append (λ (o : Joined). same m o.known.lane) v.joined (kept_of w ∷ w.joined), own m, sh.once m);
+        once = λ m. omega (
+          arith,
+          move.sum (lanes m),
+          total-append (λ (o : Joined). same m o.known.lane) v.joined
+              (kept_of w ∷ w.joined),
+          own m,
+          sh.once m,
+        );
       }
-      (work-seats kept.b kept.work kept.start kept.d (number s) s.views ws other id v me v.seat nobody.seat b.joined 0 no_start [] (λ g. g w) move refl alive (λ e. absurd (true_not e)) (λ _. refl) (λ f pos. refl) (λ e. absurd (true_not e))
+      (work-seats kept.b kept.work kept.start kept.d (number s) s.views ws other id v me v.seat nobody.seat b.joined 0
+      no_start [] (λ g. g w) move refl alive (λ e. absurd (true_not e)) (λ _. refl) (λ f pos. refl)
+      (λ e. absurd (true_not e))
       (every_append (λ o. Accounts kept.b o.known) v.joined (kept_of w ∷ w.joined) (kept.in_hand.joined id v me)
-      (every_cons (λ o. Accounts kept.b o.known) (kept_of w) w.joined (kept.in_hand.accounts other w there bare.alive) (kept.in_hand.joined other w there)))
+      (every_cons (λ o. Accounts kept.b o.known) (kept_of w) w.joined (kept.in_hand.accounts other w there bare.alive)
+      (kept.in_hand.joined other w there)))
       (λ excepted z. refl) kept.in_hand)

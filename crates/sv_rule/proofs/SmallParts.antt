@@ -25,12 +25,14 @@ use Rattle.sv_rule.proofs.SmallWorld.{Small, b, it, lane0, lane1, m1, m2, s1, s2
 
 -- ---- Home
 
-pub home-small : (total has_db vs ≡ word Small 0) × (total has_dir vs ≡ word Small 1) × ((l : ℕ) → total (lanes l) vs ≡ same l 0 + same l 1) × (total is_spent vs ≡ total joined_count vs)
+pub home-small : (total has_db vs ≡ word Small 0) × (total has_dir vs ≡ word Small 1)
+    × ((l : ℕ) → total (lanes l) vs ≡ same l 0 + same l 1) × (total is_spent vs ≡ total joined_count vs)
 home-small = (refl, refl, (λ l. omega arith), refl)
 
 -- ---- Ledger
 
-pub ledger-small : (reference Small 0 ≡ 1 * 4294967296 + holders Small 256) × (reference Small 1 ≡ 2 * 4294967296 + holders Small 513) × (owers Small 256 ≡ 0)
+pub ledger-small : (reference Small 0 ≡ 1 * 4294967296 + holders Small 256)
+    × (reference Small 1 ≡ 2 * 4294967296 + holders Small 513) × (owers Small 256 ≡ 0)
 unfolding below
 ledger-small = (refl, refl, refl)
 
@@ -61,7 +63,8 @@ number-small = record {
 
 -- ---- Rounds
 
-pub round-small : (word Small 82 ≡ total all_adds vs) × (word Small 82 + below (has_current b) 16 + sets work ≤ length b.supers + length b.families)
+pub round-small : (word Small 82 ≡ total all_adds vs) ×
+    (word Small 82 + below (has_current b) 16 + sets work ≤ length b.supers + length b.families)
 unfolding below
 round-small = (refl, omega arith)
 
@@ -77,7 +80,8 @@ loaded-small = every_cons (Loaded b work 0 (number Small)) (record { family = 0;
 -- ---- Sweep
 
 -- lane 0 is passed, and its slot is empty
-pub passed-small : Right (fit work 0 0 (number Small 0)) (middle (spot 0 0) work) (slot Small (spot 0 0)) (number Small 0) (cached_at vs 0 0) (slot_at vs 0 0)
+pub passed-small : Right (fit work 0 0 (number Small 0)) (middle (spot 0 0) work) (slot Small (spot 0 0))
+    (number Small 0) (cached_at vs 0 0) (slot_at vs 0 0)
 passed-small = record {
   empty = λ _. refl;
   full = λ z. absurd (omega (arith, z));
@@ -90,7 +94,8 @@ passed-small = record {
 }
 
 -- lane 1 is not, and its slot has the old pack
-pub unpassed-small : Right (fit work 0 1 (number Small 0)) (middle (spot 1 0) work) (slot Small (spot 1 0)) (number Small 0) (cached_at vs 1 0) (slot_at vs 1 0)
+pub unpassed-small : Right (fit work 0 1 (number Small 0)) (middle (spot 1 0) work) (slot Small (spot 1 0))
+    (number Small 0) (cached_at vs 1 0) (slot_at vs 1 0)
 unpassed-small = record {
   empty = λ z. absurd (omega (arith, z));
   full = λ _. refl;
@@ -107,7 +112,8 @@ stock-small = ((λ _ _ e. omega (arith, e)), (λ _. omega arith))
 
 -- ---- Fresh
 
-pub fresh-small : FreshOf b (number Small 0) 0 (slot_of lane1 0) (at 0 lane1.slots.cached 0) (at 0 lane1.slots.looked 0) (at 0 lane1.known.seen 0)
+pub fresh-small : FreshOf b (number Small 0) 0 (slot_of lane1 0) (at 0 lane1.slots.cached 0)
+    (at 0 lane1.slots.looked 0) (at 0 lane1.known.seen 0)
 fresh-small = record {
   slot = λ z. absurd (omega (arith, z));
   cached = λ _. record { is = pack1; below = λ _. omega arith; none = λ z. absurd (omega (arith, z)) };
@@ -119,7 +125,8 @@ fresh-small = record {
 -- ---- Held
 
 -- cell 0 has the row of memtable 1, cell 1 has memtable 2 without rows, and cell 2 is vacant
-pub cells-small : Says b vs 0 (Some (record { id = 1; rows = record { key = 107 ∷ []; op = op.Delete } ∷ [] })) × Says b vs 1 (Some (record { id = 2; rows = [] })) × Says b vs 2 None
+pub cells-small : Says b vs 0 (Some (record { id = 1; rows = record { key = 107 ∷ []; op = op.Delete } ∷ [] }))
+    × Says b vs 1 (Some (record { id = 2; rows = [] })) × Says b vs 2 None
 cells-small = (
   has_rows (record { id = 1; it = m1; at = refl; live = refl; is = refl }) refl,
   has_rows (record { id = 2; it = m2; at = refl; live = refl; is = refl }) refl,
@@ -137,7 +144,9 @@ cells-small = (
 
 -- ---- Work
 
-pub work-small : (by_lane 1 b.journal ≡ lane1.known.mine) × (by_lane 0 b.journal ≡ lane0.known.mine) × (total (λ (u : LaneView). has_job u.known.task) vs ≡ b.files.jobs) × (handle b.families 1 0 ≡ times 0 lane1.known.task.handles)
+pub work-small : (by_lane 1 b.journal ≡ lane1.known.mine) × (by_lane 0 b.journal ≡ lane0.known.mine)
+    × (total (λ (u : LaneView). has_job u.known.task) vs ≡ b.files.jobs)
+    × (handle b.families 1 0 ≡ times 0 lane1.known.task.handles)
 work-small = (refl, refl, refl, refl)
 
 -- ---- what fits
@@ -161,7 +170,11 @@ body-small = record {
     version = record { files = []; live = true };
     version_at = refl;
     middle = 0;
-    files = record { joins = refl; each = every_none (IsFileOf b.files.numbers b.metas 0); above = λ i f e. absurd (get_none i f e) };
+    files = record {
+      joins = refl;
+      each = every_none (IsFileOf b.files.numbers b.metas 0);
+      above = λ i f e. absurd (get_none i f e);
+    };
     members = refl;
   };
   cell_is = refl;

@@ -16,10 +16,32 @@ abbrev pub w : Write
 w = record { family = 0; key = 107 ∷ []; op = op.Delete; mem = 1; lane = 1 }
 
 abbrev pub s1 : SuperVersion
-s1 = record { descriptor = record { family = 0; active = 1; list = 1; version = 1; base = 0; options = first_options }; place = 0; live = true }
+s1 = record {
+  descriptor = record {
+    family = 0;
+    active = 1;
+    list = 1;
+    version = 1;
+    base = 0;
+    options = first_options;
+  };
+  place = 0;
+  live = true;
+}
 
 abbrev pub s2 : SuperVersion
-s2 = record { descriptor = record { family = 0; active = 2; list = 2; version = 1; base = 1; options = first_options }; place = 1; live = true }
+s2 = record {
+  descriptor = record {
+    family = 0;
+    active = 2;
+    list = 2;
+    version = 1;
+    base = 1;
+    options = first_options;
+  };
+  place = 1;
+  live = true;
+}
 
 abbrev pub m1 : Memtable
 m1 = record { family = 0; first = 0; cell = 0; live = true }
@@ -72,7 +94,8 @@ vs = lane0 ∷ lane1 ∷ []
 -- the DB lock is taken; one number word is not 0; the round was added to once; two places have a SuperVersion; and the
 -- slot word of lane 1 has the pack
 abbrev pub words : List ℕ
-words = 1 ∷ (replicate 65 0 ++ 513 ∷ (replicate 15 0 ++ 1 ∷ 4294967298 ∷ 8589934593 ∷ (replicate 254 0 ++ (replicate 16 0 ++ 256 ∷ replicate 495 0))))
+words = 1 ∷ (replicate 65 0 ++ 513 ∷ (replicate 15 0 ++ 1 ∷ 4294967298 ∷ 8589934593 ∷
+    (replicate 254 0 ++ (replicate 16 0 ++ 256 ∷ replicate 495 0))))
 
 abbrev pub Small : State Books LaneView
 Small = record { words = words; homes = []; views = vs }

@@ -42,8 +42,11 @@ use Rattle.sv_rule.proofs.Sums.{same-else, same_le, same_one}
 no_some : {A : Type 0} (d : A) → None ≡ Some d → ⊥
 no_some d e = cc
 
-module _ {S D C B : Type 0} (books : S → Books) (disk : D → Disk) (cell : C → Option Cell) (body : B → Body) (lanes_made : ℕ) (one : 0 < lanes_made) (few : lanes_made ≤ 32) (b : Books) (d : Disk) (ws : List ℕ) (xs : List (Stored S D C B))
-    (words : FirstWords (length b.families) ws) (slots : FirstSlots books disk cell b d xs) (first : FirstBooks b d) where
+module _ {S D C B : Type 0} (books : S → Books) (disk : D → Disk) (cell : C → Option Cell) (body : B → Body)
+    (lanes_made : ℕ) (one : 0 < lanes_made) (few : lanes_made ≤ 32) (b : Books) (d : Disk) (ws : List ℕ)
+    (xs : List (Stored S D C B))
+    (words : FirstWords (length b.families) ws) (slots : FirstSlots books disk cell b d xs)
+    (first : FirstBooks b d) where
   abbrev v : LaneView
   v = first_view lanes_made b d
 
@@ -63,7 +66,8 @@ module _ {S D C B : Type 0} (books : S → Books) (disk : D → Disk) (cell : C 
   lock_zero k l = words.zeros k (λ f near e. omega (arith, l, e)) (λ f near e. omega (arith, l, e))
 
   slot_zero : (i : ℕ) → i < 512 → slot O i ≡ 0
-  slot_zero i l = words.zeros (slot_word i) (λ f near e. omega (arith, l, e, near, most)) (λ f near e. omega (arith, l, e, near, most))
+  slot_zero i l = words.zeros (slot_word i) (λ f near e. omega (arith, l, e, near, most))
+      (λ f near e. omega (arith, l, e, near, most))
 
   round_zero : word O 82 ≡ 0
   round_zero = words.zeros 82 (λ f near e. omega (arith, e, near, most)) (λ f near e. omega (arith, e))
@@ -71,7 +75,8 @@ module _ {S D C B : Type 0} (books : S → Books) (disk : D → Disk) (cell : C 
   number_is : (f : ℕ) → f < 16 → number O f ≡ current_of b f
   number_is f near = by_less f n
       (λ l. words.numbers f l ∙ sym (current_at_first b first.opening f l))
-      (λ l. words.zeros (number_word f) (λ g few e. omega (arith, e, few, l)) (λ g few e. omega (arith, e, near)) ∙ sym (current_none b first.opening f l))
+      (λ l. words.zeros (number_word f) (λ g few e. omega (arith, e, few, l)) (λ g few e. omega (arith, e, near))
+      ∙ sym (current_none b first.opening f l))
 
   number_at : (f : ℕ) → f < n → number O f ≡ pack (suc f) f
   number_at f l = words.numbers f l
@@ -81,7 +86,11 @@ module _ {S D C B : Type 0} (books : S → Books) (disk : D → Disk) (cell : C 
 
   -- who holds a pack
   held_is : (q : ℕ) → 256 ≤ q → holders O q ≡ below (λ f. same q (number O f)) 16
-  held_is q big = omega (arith, below-zero (λ i. same q (slot O i)) 512 (λ k l. ap (same q) (slot_zero k l) ∙ same-else q 0 (λ e. omega (arith, big, e))))
+  held_is q big = omega (
+    arith,
+    below-zero (λ i. same q (slot O i)) 512
+        (λ k l. ap (same q) (slot_zero k l) ∙ same-else q 0 (λ e. omega (arith, big, e))),
+  )
 
   other : (q f : ℕ) → 256 ≤ q → f < 16 → (f < n → q ≢ pack (suc f) f) → same q (number O f) ≡ 0
   other q f big near not = by_less f n
@@ -92,7 +101,8 @@ module _ {S D C B : Type 0} (books : S → Books) (disk : D → Disk) (cell : C 
   held_one k l = omega (
     arith,
     held_is (pack (suc k) k) (omega arith),
-    below-one (λ f. same (pack (suc k) k) (number O f)) k 16 (omega (arith, l, most)) (λ f near ne. other (pack (suc k) k) f (omega arith) near (λ less e. ne (omega (arith, e, less, l, most)))),
+    below-one (λ f. same (pack (suc k) k) (number O f)) k 16 (omega (arith, l, most))
+        (λ f near ne. other (pack (suc k) k) f (omega arith) near (λ less e. ne (omega (arith, e, less, l, most)))),
     same_one (pack (suc k) k) (number O k) (number_at k l),
   )
 
@@ -101,7 +111,8 @@ module _ {S D C B : Type 0} (books : S → Books) (disk : D → Disk) (cell : C 
     arith,
     held_is (pack t k) (omega (arith, pos)),
     below-zero (λ f. same (pack t k) (number O f)) 16 (λ f less. other (pack t k) f (omega (arith, pos)) less (λ l e.
-        let same_place : k ≡ f = omega (arith, e, near, l, most) in not (omega (arith, same_place, l)) (omega (arith, e, same_place)))),
+        let same_place : k ≡ f = omega (arith, e, near, l, most) in
+        not (omega (arith, same_place, l)) (omega (arith, e, same_place)))),
   )
 
   places : Places b.supers (reference O) (holders O) (owers O)
@@ -117,7 +128,8 @@ module _ {S D C B : Type 0} (books : S → Books) (disk : D → Disk) (cell : C 
         unowed = λ _. refl;
       }))
       (λ l. inl (record {
-        word = words.zeros (reference_word k) (λ f less e. omega (arith, e, less, most)) (λ f less e. omega (arith, e, less, l));
+        word = words.zeros (reference_word k) (λ f less e. omega (arith, e, less, most))
+            (λ f less e. omega (arith, e, less, l));
         dead = λ t y. omega (arith, (super_only b first.opening t k y).1, l);
         unheld = λ t y. held_none t k y near (λ less. absurd (omega (arith, less, l)));
         unowed = λ t y. refl;
@@ -142,10 +154,23 @@ module _ {S D C B : Type 0} (books : S → Books) (disk : D → Disk) (cell : C 
   says : (c : ℕ) → c < 64 → (f : FirstCell cell n c xs) → Says b (v ∷ []) c (cell f.it)
   says c near f = by_less c n
       (λ l. let y = some-at b.families c l in
-      has_rows (record { id = suc c; it = first_memtable b.journal c; at = first.opening.memtables c y.0 y.1; live = refl; is = refl })
-      (f.has l ∙ ap (λ rows. Some (record { id = suc c; rows = rows })) (sym (ap rows_of (bears_none b first.opening c)))))
+      has_rows (record {
+        id = suc c;
+        it = first_memtable b.journal c;
+        at = first.opening.memtables c y.0 y.1;
+        live = refl;
+        is = refl;
+      })
+      (f.has l ∙ ap (λ rows. Some (record { id = suc c; rows = rows }))
+      (sym (ap rows_of (bears_none b first.opening c)))))
       (λ l. is_vacant
-      (λ o. let m = nth_memtable b first.opening o.id o.it o.at in omega (arith, sym (ap (λ (z : Memtable). z.cell) m.is) ∙ o.is, l, get_lt b.families m.index m.family m.family_at))
+      (λ o. let m = nth_memtable b first.opening o.id o.it o.at in
+      omega (
+        arith,
+        sym (ap (λ (z : Memtable). z.cell) m.is) ∙ o.is,
+        l,
+        get_lt b.families m.index m.family m.family_at,
+      ))
       (f.vacant l))
 
   none_cached : (l f : ℕ) → (cached_at (v ∷ []) l f ≡ 0) × (slot_at (v ∷ []) l f ≡ away)
@@ -177,10 +202,15 @@ module _ {S D C B : Type 0} (books : S → Books) (disk : D → Disk) (cell : C 
       db = record {
         bit = sym (lock_zero 0 (omega arith));
         one = omega (arith, lock_zero 0 (omega arith));
-        home = λ _. (is.State slots.state, at_home 0 (is.State slots.state) slots.state_at, (slots.state, refl, slots.books_are, refl));
+        home = λ _. (
+          is.State slots.state,
+          at_home 0 (is.State slots.state) slots.state_at,
+          (slots.state, refl, slots.books_are, refl),
+        );
         out = λ e. absurd (omega (arith, lock_zero 0 (omega arith), e));
       };
-      desks = each_one (λ j u. (k : Desk) → u.locks.db ≡ Some k → (k.books ≡ b) × (k.work ≡ idle)) v (λ k e. absurd (no_some k e));
+      desks = each_one (λ j u. (k : Desk) → u.locks.db ≡ Some k → (k.books ≡ b) × (k.work ≡ idle)) v
+          (λ k e. absurd (no_some k e));
       dir = record {
         bit = sym (lock_zero 1 (omega arith));
         one = omega (arith, lock_zero 1 (omega arith));
@@ -202,23 +232,32 @@ module _ {S D C B : Type 0} (books : S → Books) (disk : D → Disk) (cell : C 
       begun_none = λ _. omega arith;
       greatest = λ z. absurd (omega arith);
       sum = round_zero;
-      bound = omega (arith, round_zero, below-upto (has_current b) n 16 (λ k. has_current_le b k) (λ k near l. has_current_none b k (current_none b first.opening k l)), first.opening.supers_made);
+      bound = omega (
+        arith,
+        round_zero,
+        below-upto (has_current b) n 16 (λ k. has_current_le b k)
+            (λ k near l. has_current_none b k (current_none b first.opening k l)),
+        first.opening.supers_made,
+      );
       low = each_one (λ j u. u.known.round ≤ word O 82) v (omega arith);
-      loaded = each_one (λ j u. u.known.round ≡ word O 82 → Every (Loaded b idle 16 (number O)) u.loads) v (λ _. every_none (Loaded b idle 16 (number O)));
+      loaded = each_one (λ j u. u.known.round ≡ word O 82 → Every (Loaded b idle 16 (number O)) u.loads) v
+          (λ _. every_none (Loaded b idle 16 (number O)));
     };
     sweep = record {
-      right = λ l f low near. let z = slot_zero (spot l f) (omega (arith, low, near)) in let c = none_cached l f in record {
-        empty = λ _. omega (arith, ap lent c.1);
-        full = λ w. absurd (omega (arith, z, w));
-        out = λ w. absurd (omega (arith, z, w));
-        cached = λ w. absurd (omega (arith, z, w));
-        fitting = λ w. absurd (omega (arith, z, w));
-        used = λ w. absurd (omega (arith, z, w));
-        away = λ _ big. absurd (omega (arith, c.0, big));
-        none = λ w. c.0;
-      };
+      right = λ l f low near. let z = slot_zero (spot l f) (omega (arith, low, near)) in let c = none_cached l f in
+          record {
+            empty = λ _. omega (arith, ap lent c.1);
+            full = λ w. absurd (omega (arith, z, w));
+            out = λ w. absurd (omega (arith, z, w));
+            cached = λ w. absurd (omega (arith, z, w));
+            fitting = λ w. absurd (omega (arith, z, w));
+            used = λ w. absurd (omega (arith, z, w));
+            away = λ _ big. absurd (omega (arith, c.0, big));
+            none = λ w. c.0;
+          };
       apart = tt;
-      stock = each_one (λ j u. (k : Desk) → u.locks.db ≡ Some k → Stock k.books k.work u.hand) v (λ k e. absurd (no_some k e));
+      stock = each_one (λ j u. (k : Desk) → u.locks.db ≡ Some k → Stock k.books k.work u.hand) v
+          (λ k e. absurd (no_some k e));
     };
     fresh = each_one (λ j u. FreshIn b (number O) u) v (λ f near. fresh_none b (number O f) f);
     held = record {
@@ -228,7 +267,8 @@ module _ {S D C B : Type 0} (books : S → Books) (disk : D → Disk) (cell : C 
         home = λ _. (is.Cell f.it, at_home (cell_word c) (is.Cell f.it) f.at, (f.it, refl, says c near f));
         out = λ e. absurd (omega (arith, lock_zero (cell_word c) (omega (arith, near)), e));
       };
-      lent = each_one (λ j u. (h : CellHeld) → u.locks.cell ≡ Some h → IsLent b (v ∷ []) h) v (λ h e. absurd (no_some h e));
+      lent = each_one (λ j u. (h : CellHeld) → u.locks.cell ≡ Some h → IsLent b (v ∷ []) h) v
+          (λ h e. absurd (no_some h e));
       files = files-first lanes_made b d first;
       bodies = λ i r l e. absurd (no_ref r (sym (at_home (slot_home i) is.Nothing (slots.nothing i l)) ∙ e));
     };
@@ -246,7 +286,8 @@ no_entry : {A : Type 0} (i : ℕ) (x : A) → entry [] i ≡ Some x → ⊥
 no_entry zero x e = cc
 no_entry (suc i) x e = cc
 
-pub new-books : (next : ℕ) (d : Disk) → IsOpening (opening_books next) → Lawful (opening_books next) → FirstBooks (opening_books next) d
+pub new-books : (next : ℕ) (d : Disk) → IsOpening (opening_books next) → Lawful (opening_books next)
+    → FirstBooks (opening_books next) d
 new-books next d o lawful = record {
   opening = o;
   lawful = lawful;

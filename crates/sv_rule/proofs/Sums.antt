@@ -31,7 +31,8 @@ module _ {A : Type 0} (g : A → ℕ) where
   term_le (x ∷ xs) zero v e = omega (arith, ap g (some-injective x v e))
   term_le (x ∷ xs) (suc j) v e = omega (arith, term_le xs j v e)
 
-  pub terms_le : (l : List A) (j k : ℕ) (v u : A) → k ≢ j → get_elem? l j ≡ some v → get_elem? l k ≡ some u → g v + g u ≤ total g l
+  pub terms_le : (l : List A) (j k : ℕ) (v u : A) → k ≢ j → get_elem? l j ≡ some v → get_elem? l k ≡ some u
+      → g v + g u ≤ total g l
   terms_le [] j k v u n e d = absurd (some-ne-none v (sym e))
   terms_le (x ∷ xs) zero zero v u n e d = absurd (n refl)
   terms_le (x ∷ xs) zero (suc k) v u n e d = omega (arith, ap g (some-injective x v e), term_le xs k u d)
@@ -41,9 +42,11 @@ module _ {A : Type 0} (g : A → ℕ) where
   -- no more than m for each
   pub total_le : (l : List A) (m : ℕ) → ((j : ℕ) (v : A) → get_elem? l j ≡ some v → g v ≤ m) → total g l ≤ length l * m
   total_le [] m h = omega arith
-  total_le (x ∷ xs) m h = let a : g x ≤ m = h 0 x refl in let b : total g xs ≤ length xs * m = total_le xs m (λ j. h (suc j)) in omega arith
+  total_le (x ∷ xs) m h = let a : g x ≤ m = h 0 x refl in
+      let b : total g xs ≤ length xs * m = total_le xs m (λ j. h (suc j)) in omega arith
 
-  pub total-put : (d : A) → g d ≡ 0 → (l : List A) (i : ℕ) (a : A) → total g (put d l i a) + g (at d l i) ≡ total g l + g a
+  pub total-put : (d : A) → g d ≡ 0 → (l : List A) (i : ℕ) (a : A)
+      → total g (put d l i a) + g (at d l i) ≡ total g l + g a
   total-put d z [] zero a = omega (arith, z)
   total-put d z [] (suc i) a = omega (arith, z, total-put d z [] i a)
   total-put d z (x ∷ xs) zero a = omega arith
@@ -78,11 +81,16 @@ module _ {A : Type 0} (d : A) where
   length-put (x ∷ xs) zero a (suc n) s h = omega arith
   length-put (x ∷ xs) (suc i) a (suc n) s h = let r = length-put xs i a n (omega arith) (omega arith) in omega arith
 
-pub total-without : (p : ℕ) (l : List ℕ) → 0 < total (same p) l → (q : ℕ) → total (same q) (without p l) + same q p ≡ total (same q) l
+pub total-without : (p : ℕ) (l : List ℕ) → 0 < total (same p) l → (q : ℕ)
+    → total (same q) (without p l) + same q p ≡ total (same q) l
 total-without p [] h q = absurd (omega arith)
 total-without p (x ∷ xs) h q = dite (ℕ_discrete x p)
     (λ e. omega (arith, ap (λ b. total (same q) (cond b xs (x ∷ without p xs))) (eq-eqb x p e), ap (same q) e))
-    (λ n. omega (arith, ap (λ b. total (same q) (cond b xs (x ∷ without p xs))) (ne_eqb x p n), total-without p xs (omega (arith, same-else p x n)) q))
+    (λ n. omega (
+      arith,
+      ap (λ b. total (same q) (cond b xs (x ∷ without p xs))) (ne_eqb x p n),
+      total-without p xs (omega (arith, same-else p x n)) q,
+    ))
 
 pub length-without : (p : ℕ) (l : List ℕ) → length (without p l) ≤ length l
 length-without p [] = omega arith
@@ -92,7 +100,8 @@ length-without p (x ∷ xs) = dite (ℕ_discrete x p)
 
 pub total-same_le : (p : ℕ) (l : List ℕ) → total (same p) l ≤ length l
 total-same_le p [] = omega arith
-total-same_le p (x ∷ xs) = dite (ℕ_discrete x p) (λ e. omega (arith, ap (same p) e, same-self p, total-same_le p xs)) (λ n. omega (arith, same-else p x n, total-same_le p xs))
+total-same_le p (x ∷ xs) = dite (ℕ_discrete x p) (λ e. omega (arith, ap (same p) e, same-self p, total-same_le p xs))
+    (λ n. omega (arith, same-else p x n, total-same_le p xs))
 
 pub below-same : (f g : ℕ → ℕ) (n : ℕ) → ((k : ℕ) → k < n → g k ≡ f k) → below g n ≡ below f n
 unfolding below
@@ -114,13 +123,16 @@ below_le f (suc n) h = omega (arith, below_le f n h, h n)
 pub below-term_le : (f : ℕ → ℕ) (j n : ℕ) → j < n → f j ≤ below f n
 unfolding below
 below-term_le f j zero h = absurd (omega arith)
-below-term_le f j (suc n) h = dite (ℕ_discrete j n) (λ y. omega (arith, ap f y)) (λ y. omega (arith, below-term_le f j n (omega arith)))
+below-term_le f j (suc n) h = dite (ℕ_discrete j n) (λ y. omega (arith, ap f y))
+    (λ y. omega (arith, below-term_le f j n (omega arith)))
 
 pub same_le : (p x : ℕ) → same p x ≤ 1
-same_le p x = dite (ℕ_discrete x p) (λ e. omega (arith, ap (same p) e, same-self p)) (λ n. omega (arith, same-else p x n))
+same_le p x = dite (ℕ_discrete x p) (λ e. omega (arith, ap (same p) e, same-self p))
+    (λ n. omega (arith, same-else p x n))
 
 -- a word of a row changes only where it was set
-pub row-put : (ws : List ℕ) (base j x : ℕ) → base + j < length ws → Put (λ k. get_or ws (base + k) 0) (λ k. get_or (set ws (base + j) x) (base + k) 0) j x
+pub row-put : (ws : List ℕ) (base j x : ℕ) → base + j < length ws
+    → Put (λ k. get_or ws (base + k) 0) (λ k. get_or (set ws (base + j) x) (base + k) 0) j x
 row-put ws base j x h = record {
   here = get_or-set_same ws (base + j) x 0 h;
   else = λ k n. get_or-set_other ws (base + j) (base + k) x 0 (λ e. n (omega arith));
@@ -129,23 +141,35 @@ row-put ws base j x h = record {
 pub total-without_else : (p q : ℕ) (l : List ℕ) → q ≢ p → total (same q) (without p l) ≡ total (same q) l
 total-without_else p q [] n = refl
 total-without_else p q (x ∷ xs) n = dite (ℕ_discrete x p)
-    (λ e. ap (λ b. total (same q) (cond b xs (x ∷ without p xs))) (eq-eqb x p e) ∙ omega (arith, same-else q x (λ z. n (sym z ∙ e))))
-    (λ ne. ap (λ b. total (same q) (cond b xs (x ∷ without p xs))) (ne_eqb x p ne) ∙ omega (arith, total-without_else p q xs n))
+    (λ e. ap (λ b. total (same q) (cond b xs (x ∷ without p xs))) (eq-eqb x p e)
+    ∙ omega (arith, same-else q x (λ z. n (sym z ∙ e))))
+    (λ ne. ap (λ b. total (same q) (cond b xs (x ∷ without p xs))) (ne_eqb x p ne)
+    ∙ omega (arith, total-without_else p q xs n))
 
 pub at_lt : {A : Type 0} (l : List A) (i : ℕ) (a : A) → get_elem? l i ≡ some a → i < length l
 at_lt [] i a e = absurd (some-ne-none a (sym e))
 at_lt (x ∷ xs) zero a e = omega arith
 at_lt (x ∷ xs) (suc i) a e = let h = at_lt xs i a e in omega arith
 
-pub total-zero : {A : Type 0} (g : A → ℕ) (l : List A) → ((j : ℕ) (u : A) → get_elem? l j ≡ some u → g u ≡ 0) → total g l ≡ 0
+pub total-zero : {A : Type 0} (g : A → ℕ) (l : List A) → ((j : ℕ) (u : A) → get_elem? l j ≡ some u → g u ≡ 0)
+    → total g l ≡ 0
 total-zero g [] h = refl
 total-zero g (x ∷ xs) h = omega (arith, h 0 x refl, total-zero g xs (λ j. h (suc j)))
 
 -- where all others have none, one has all
-pub total-one : {A : Type 0} (g : A → ℕ) (l : List A) (i : ℕ) (v : A) → get_elem? l i ≡ some v → ((j : ℕ) (u : A) → j ≢ i → get_elem? l j ≡ some u → g u ≡ 0) → total g l ≡ g v
+pub total-one : {A : Type 0} (g : A → ℕ) (l : List A) (i : ℕ) (v : A) → get_elem? l i ≡ some v
+    → ((j : ℕ) (u : A) → j ≢ i → get_elem? l j ≡ some u → g u ≡ 0) → total g l ≡ g v
 total-one g [] i v e h = absurd (some-ne-none v (sym e))
-total-one g (x ∷ xs) zero v e h = omega (arith, ap g (some-injective x v e), total-zero g xs (λ j u. h (suc j) u (λ z. omega arith)))
-total-one g (x ∷ xs) (suc i) v e h = omega (arith, h 0 x (λ z. omega arith) refl, total-one g xs i v e (λ j u n. h (suc j) u (λ z. n (omega arith))))
+total-one g (x ∷ xs) zero v e h = omega (
+  arith,
+  ap g (some-injective x v e),
+  total-zero g xs (λ j u. h (suc j) u (λ z. omega arith)),
+)
+total-one g (x ∷ xs) (suc i) v e h = omega (
+  arith,
+  h 0 x (λ z. omega arith) refl,
+  total-one g xs i v e (λ j u n. h (suc j) u (λ z. n (omega arith))),
+)
 
 -- a list read at an id, where one of it is set or one more is added
 module _ {A : Type 0} (d : A) where

@@ -22,7 +22,8 @@ pub record FirstWords (families : ℕ) (ws : List ℕ) : Type 0 where
   pub long : length ws ≡ 851
   pub numbers : (f : ℕ) → f < families → slice_index ws (number_word f) ≡ pack (suc f) f
   pub references : (f : ℕ) → f < families → slice_index ws (reference_word f) ≡ suc f * 4294967296 + 1
-  pub zeros : (k : ℕ) → ((f : ℕ) → f < families → k ≢ number_word f) → ((f : ℕ) → f < families → k ≢ reference_word f) → slice_index ws k ≡ 0
+  pub zeros : (k : ℕ) → ((f : ℕ) → f < families → k ≢ number_word f) → ((f : ℕ) → f < families → k ≢ reference_word f)
+      → slice_index ws k ≡ 0
 
 module _ {S D C B : Type 0} where
   -- cell c has the memtable of family c without rows, and is vacant where there is no such family
@@ -33,7 +34,8 @@ module _ {S D C B : Type 0} where
     pub vacant : families ≤ c → cell it ≡ None
 
   -- the slots: the state, the directory, the cells, and nothing at the slots of lanes
-  pub record FirstSlots (books : S → Books) (disk : D → Disk) (cell : C → Option Cell) (b : Books) (d : Disk) (xs : List (Stored S D C B)) : Type 0 where
+  pub record FirstSlots (books : S → Books) (disk : D → Disk) (cell : C → Option Cell) (b : Books) (d : Disk)
+      (xs : List (Stored S D C B)) : Type 0 where
     pub long : length xs ≡ 578
     pub state : S
     pub state_at : get_elem? xs 0 ≡ maybe.some (is.State state)

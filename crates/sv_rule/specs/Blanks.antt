@@ -24,7 +24,19 @@ no_start = record { disk = record { files = None; faults = 0 }; books = no_books
 abbrev pub no_bodied : Bodied
 no_bodied = record {
   pack = 0;
-  body = record { descriptor = record { family = 0; active = 0; list = 0; version = 0; base = 0; options = first_options }; cell = 0; frozen = []; files = [] };
+  body = record {
+    descriptor = record {
+      family = 0;
+      active = 0;
+      list = 0;
+      version = 0;
+      base = 0;
+      options = first_options;
+    };
+    cell = 0;
+    frozen = [];
+    files = [];
+  };
 }
 
 abbrev pub no_desk : Desk
@@ -41,7 +53,16 @@ no_counts = record { looks = 0; uses = 0; misses = 0; swept = 0; takes = 0; faul
 
 -- a task with handles of these families, and nothing else
 abbrev pub bare_task : List ℕ → Task
-bare_task handles = record { handles = handles; holds = 0; quiet = false; listed = []; output = None; job = None; removed = []; ended = [] }
+bare_task handles = record {
+  handles = handles;
+  holds = 0;
+  quiet = false;
+  listed = [];
+  output = None;
+  job = None;
+  removed = [];
+  ended = [];
+}
 
 abbrev pub bare_known : ℕ → Start → List ℕ → Known
 bare_known lane start handles = record {
@@ -60,11 +81,23 @@ bare_known lane start handles = record {
 }
 
 abbrev pub bare_view : Seat → Known → LaneView
-bare_view seat known = record { seat = seat; known = known; locks = no_locks; slots = no_slots; counts = no_counts; hand = []; owes = []; loads = []; names = []; joined = [] }
+bare_view seat known = record {
+  seat = seat;
+  known = known;
+  locks = no_locks;
+  slots = no_slots;
+  counts = no_counts;
+  hand = [];
+  owes = [];
+  loads = [];
+  names = [];
+  joined = [];
+}
 
 -- the view of a lane's new seat
 abbrev pub new_view : ℕ → ℕ → ℕ → Start → LaneView
-new_view lane lanes made start = bare_view (record { spent = false; lanes = lanes; made = made; ends = [] }) (bare_known lane start (0 ∷ []))
+new_view lane lanes made start = bare_view (record { spent = false; lanes = lanes; made = made; ends = [] })
+    (bare_known lane start (0 ∷ []))
 
 -- the view that a joined seat leaves
 abbrev pub nobody : LaneView

@@ -71,7 +71,8 @@ IsClosed journal lists memtables m rows = IsMember lists m ⊎ IsPassed journal 
 -- Rows that were read stand in front of their memtable's rows; whole ones are all that it ever bears.
 pub record RowsFit (b : Books) (x : RowsRead) : Type 0 where
   pub front : Continues x.rows (rows_of (borne_by x.mem b.journal))
-  pub whole : x.whole ≡ true → (rows_of (borne_by x.mem b.journal) ≡ x.rows) × IsClosed b.journal b.lists b.memtables x.mem (length x.rows)
+  pub whole : x.whole ≡ true → (rows_of (borne_by x.mem b.journal) ≡ x.rows)
+      × IsClosed b.journal b.lists b.memtables x.mem (length x.rows)
 
 -- a file that was read is the text of a file captured for a family
 pub record ReadFits (b : Books) (x : FileRead) : Type 0 where

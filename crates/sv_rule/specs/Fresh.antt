@@ -29,7 +29,8 @@ pub record FreshOf (b : Books) (n f : ℕ) (x : SlotView) (c p seen : ℕ) : Typ
 
 abbrev pub FreshIn : Books → (ℕ → ℕ) → LaneView → Type 0
 FreshIn b number v =
-    (f : ℕ) → f < 16 → FreshOf b (number f) f (slot_of v f) (at 0 v.slots.cached f) (at 0 v.slots.looked f) (at 0 v.known.seen f)
+    (f : ℕ) → f < 16 → FreshOf b (number f) f (slot_of v f) (at 0 v.slots.cached f) (at 0 v.slots.looked f)
+    (at 0 v.known.seen f)
 
 abbrev pub Fresh : Books → (ℕ → ℕ) → List LaneView → Type 0
 Fresh b number vs = Each (λ j v. FreshIn b number v) vs

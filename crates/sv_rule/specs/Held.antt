@@ -40,9 +40,11 @@ Free memtables c = Occupied memtables c → ⊥
 -- due, and has a memtable that is Gone.
 pub data CellSays (memtables : List Memtable) (journal : List Write) (due fill c : ℕ) (x : Option Cell) : Type 0 where
   has_rows : (o : Occupied memtables c) → x ≡ Some (cell_of journal o.id) → CellSays memtables journal due fill c x
-  fills_up : (o : Occupied memtables c) → borne_by o.id journal ≡ [] → 1 ≤ fill → CellSays memtables journal due fill c x
+  fills_up : (o : Occupied memtables c) → borne_by o.id journal ≡ [] → 1 ≤ fill
+      → CellSays memtables journal due fill c x
   is_vacant : Free memtables c → x ≡ None → CellSays memtables journal due fill c x
-  is_due : Free memtables c → 1 ≤ due → (m : ℕ) (it : Memtable) → entry memtables m ≡ Some it → it.live ≡ false → x ≡ Some (cell_of journal m)
+  is_due : Free memtables c → 1 ≤ due → (m : ℕ) (it : Memtable) → entry memtables m ≡ Some it → it.live ≡ false
+      → x ≡ Some (cell_of journal m)
       → CellSays memtables journal due fill c x
 
 abbrev pub Says : Books → List LaneView → ℕ → Option Cell → Type 0
@@ -59,7 +61,8 @@ pub record IsLent (b : Books) (vs : List LaneView) (h : CellHeld) : Type 0 where
 -- and each listed number has its text, and what a job marked as taken away is not there.
 pub record FilesHeld (b : Books) (first files : Files) (vs : List LaneView) : Type 0 where
   pub hold : FilesHold b first files
-  pub written : Each (λ j v. (o : Output) → v.known.task.output ≡ Some o → o.written ≡ true → HasItsText b files o.meta.number) vs
+  pub written : Each (λ j v. (o : Output) → v.known.task.output ≡ Some o → o.written ≡ true
+      → HasItsText b files o.meta.number) vs
   pub listed : Each (λ j v. v.seat.spent ≡ false → Every (HasItsText b files) v.known.task.listed) vs
   pub taken : Each (λ j v. Every (λ k. k.taken ≡ true → file_of k.number files ≡ None) (marks_of v.known.task.job)) vs
 
@@ -76,8 +79,10 @@ module _ {S D C B : Type 0} (cell : C → Option Cell) (body : B → Body) where
   IsCell P x = (y : C) × (x ≡ is.Cell y) × P (cell y)
 
   pub record Held (b : Books) (first disk : Disk) (s : State (Stored S D C B) LaneView) : Type 0 where
-    pub cells : (c : ℕ) → c < 64 → Lock (IsCell (Says b s.views c)) (has_cell c) (word s (cell_word c)) (home s (cell_word c)) s.views
+    pub cells : (c : ℕ) → c < 64 → Lock (IsCell (Says b s.views c)) (has_cell c) (word s (cell_word c))
+        (home s (cell_word c)) s.views
     pub lent : Each (λ j v. (h : CellHeld) → v.locks.cell ≡ Some h → IsLent b s.views h) s.views
     pub files : Told (λ x y. FilesHeld b x y s.views) first.files disk.files
     -- the body of each reference at home
-    pub bodies : (i : ℕ) (r : SvRef B) → i < 512 → home s (slot_home i) ≡ maybe.some (maybe.some (is.Cached r)) → BodyFits b (record { pack = r.pack; body = body r.body.value })
+    pub bodies : (i : ℕ) (r : SvRef B) → i < 512 → home s (slot_home i) ≡ maybe.some (maybe.some (is.Cached r))
+        → BodyFits b (record { pack = r.pack; body = body r.body.value })

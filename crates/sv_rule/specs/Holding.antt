@@ -24,9 +24,11 @@ over g tag k (x ∷ xs) = replicate (g x) (tag k) ++ over g tag (suc k) xs
 
 abbrev pub in_views : ℕ → ℕ → List LaneView → List Holder
 in_views p j [] = []
-in_views p j (v ∷ vs) = (over (names p) (by_slot j) 0 v.slots.slot ++ over (same p) (by_hand j) 0 v.hand) ++ in_views p (suc j) vs
+in_views p j (v ∷ vs) = (over (names p) (by_slot j) 0 v.slots.slot ++ over (same p) (by_hand j) 0 v.hand) ++ in_views
+    p (suc j) vs
 
 module _ {S : Type 0} (s : State S LaneView) where
   -- who holds the pack
   abbrev pub holders_of : ℕ → List Holder
-  holders_of p = upto (λ f. same p (number s f)) by_number 16 ++ (upto (λ i. same p (slot s i)) by_word 512 ++ in_views p 0 s.views)
+  holders_of p = upto (λ f. same p (number s f)) by_number
+      16 ++ (upto (λ i. same p (slot s i)) by_word 512 ++ in_views p 0 s.views)

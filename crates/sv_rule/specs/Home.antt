@@ -38,7 +38,8 @@ pub record Seats {S : Type 0} (s : State S LaneView) : Type 0 where
 -- ---- locks
 
 -- A lock word, the slot beside it, and how often the views have the lock. At home is a value of which P holds.
-pub record Lock {A : Type 0} (P : A → Type 0) (has : LaneView → ℕ) (w : ℕ) (h : Box A) (vs : List LaneView) : Type 0 where
+pub record Lock {A : Type 0} (P : A → Type 0) (has : LaneView → ℕ) (w : ℕ) (h : Box A) (vs : List LaneView) : Type
+    0 where
   pub bit : total has vs ≡ w
   pub one : w ≤ 1
   pub home : w ≡ 0 → (x : A) × (h ≡ maybe.some (maybe.some x)) × P x
@@ -59,7 +60,8 @@ module _ {S D C B : Type 0} where
     pub cached : 256 ≤ w → (r : SvRef B) × (h ≡ maybe.some (maybe.some (is.Cached r))) × (r.pack ≡ w)
     pub marks : w < 256 → w < 3
 
-  pub record Home (books : S → Books) (disk : D → Disk) (b : Books) (work : Work) (d : Disk) (s : State (Stored S D C B) LaneView) : Type 0 where
+  pub record Home (books : S → Books) (disk : D → Disk) (b : Books) (work : Work) (d : Disk)
+      (s : State (Stored S D C B) LaneView) : Type 0 where
     pub seats : Seats s
     pub db : Lock (IsState books b work) has_db (word s 0) (home s 0) s.views
     -- whoever has the state has these books, and is at this work

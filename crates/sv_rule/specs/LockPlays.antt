@@ -25,10 +25,16 @@ use Rattle.sv_rule.specs.Table.{cell_word, slot_of}
 -- ---- the DB lock
 
 abbrev pub took_db : Books → LaneView → LaneView
-took_db b v = record v { locks = record v.locks { db = Some (record { books = b; work = idle; due = [] }) }; known = record v.known { found = v.known.found ++ b ∷ [] } }
+took_db b v = record v {
+  locks = record v.locks { db = Some (record { books = b; work = idle; due = [] }) };
+  known = record v.known { found = v.known.found ++ b ∷ [] };
+}
 
 abbrev pub gave_db : Books → Task → LaneView → LaneView
-gave_db b u v = record v { locks = record v.locks { db = None }; known = record v.known { left = v.known.left ++ b ∷ []; task = u } }
+gave_db b u v = record v {
+  locks = record v.locks { db = None };
+  known = record v.known { left = v.known.left ++ b ∷ []; task = u };
+}
 
 pub record MayTakeDb (v : LaneView) : Type 0 where
   pub alive : v.seat.spent ≡ false
@@ -52,7 +58,8 @@ pub record IsTold (v : LaneView) (b : Books) : Type 0 where
   pub fits : Fits b v.known
   pub accounted : IsAccounted v.known.lane b v.known.task
   pub currents : (f : ℕ) → f < 16 → 1 ≤ times f v.known.task.handles → (In f v.seat.ends → ⊥) → 256 ≤ current_of b f
-  pub owed : (p : ℕ) → 256 ≤ p → In p v.owes → LiveAt b.supers (p / 256) (p % 256) × ((f : ℕ) → f < 16 → p ≢ current_of b f)
+  pub owed : (p : ℕ) → 256 ≤ p → In p v.owes → LiveAt b.supers (p / 256) (p % 256)
+      × ((f : ℕ) → f < 16 → p ≢ current_of b f)
 
 module _ {S D C B : Type 0} (books : S → Books) where
   pub record TookDb (m : Me (Stored S D C B) LaneView) (r : ℕ) (n : Me (Stored S D C B) LaneView) : Type 0 where
@@ -69,7 +76,8 @@ module _ {S D C B : Type 0} (books : S → Books) where
 abbrev pub closes : List ℕ → Cell → Bodied → Bool
 closes seen c x =
     list_any (λ k. k.frozen.id == c.id) x.body.frozen
-    || ((x.body.descriptor.active == c.id) && nat_lt (x.body.descriptor.base + length c.rows) (at 0 seen x.body.descriptor.family))
+    || ((x.body.descriptor.active == c.id) && nat_lt (x.body.descriptor.base + length c.rows)
+    (at 0 seen x.body.descriptor.family))
 
 -- what a taking of a cell reads, without the DB lock
 abbrev pub read_of : Option Desk → List Bodied → List ℕ → Option Cell → List RowsRead
@@ -92,7 +100,10 @@ abbrev pub raised : List ℕ → ℕ → ℕ → List ℕ
 raised seen f n = put 0 seen f (max (at 0 seen f) n)
 
 abbrev pub gave_cell : ℕ → ℕ → LaneView → LaneView
-gave_cell f cut v = record v { locks = record v.locks { cell = None }; known = record v.known { seen = raised v.known.seen f cut } }
+gave_cell f cut v = record v {
+  locks = record v.locks { cell = None };
+  known = record v.known { seen = raised v.known.seen f cut };
+}
 
 -- the cut of a read: it was seen before, or is that of the active memtable of a body
 pub record IsActiveCut (v : LaneView) (x : Option Cell) (f cut : ℕ) : Type 0 where
@@ -136,7 +147,8 @@ abbrev pub IsWriting : Books → Work → ℕ → List Write → Type 0
 IsWriting b work c more = (more ≡ []) ⊎ IsOneWrite b work c more
 
 -- The cell holds its memtable's rows in the books that the lane goes on with, or is vacant where it is no memtable's.
-pub record MayWriteCell (v : LaneView) (c : ℕ) (b : Books) (u : Task) (more : List Write) (x : Option Cell) (f n : ℕ) : Type 0 where
+pub record MayWriteCell (v : LaneView) (c : ℕ) (b : Books) (u : Task) (more : List Write) (x : Option Cell)
+    (f n : ℕ) : Type 0 where
   pub alive : v.seat.spent ≡ false
   pub desk : Desk
   pub has : v.locks.db ≡ Some desk
@@ -165,14 +177,19 @@ FindsAsBooks v c x = (d : Desk) → v.locks.db ≡ Some d → CellSays d.books.m
 -- A lane that has a reference finds the memtables that its body names. Where it has a borrow, the active one has rows
 -- that reach the borrow's floor.
 pub record FindsAsBody (v : LaneView) (c : ℕ) (x : Option Cell) : Type 0 where
-  pub active : (b : Bodied) → In b v.known.bodies → HasRef v b.pack → b.body.cell ≡ c → HasMem x b.body.descriptor.active
-  pub frozen : (b : Bodied) (k : FrozenAt) → In b v.known.bodies → HasRef v b.pack → In k b.body.frozen → k.cell ≡ c → HasMem x k.frozen.id
-  pub floor : (b : Bodied) (f floor : ℕ) (k : Cell) → In b v.known.bodies → f < 16 → slot_of v f ≡ borrow b.pack floor → b.body.cell ≡ c → x ≡ Some k
+  pub active : (b : Bodied) → In b v.known.bodies → HasRef v b.pack → b.body.cell ≡ c
+      → HasMem x b.body.descriptor.active
+  pub frozen : (b : Bodied) (k : FrozenAt) → In b v.known.bodies → HasRef v b.pack → In k b.body.frozen → k.cell ≡ c
+      → HasMem x k.frozen.id
+  pub floor : (b : Bodied) (f floor : ℕ) (k : Cell) → In b v.known.bodies → f < 16 → slot_of v f ≡ borrow b.pack floor
+      → b.body.cell ≡ c → x ≡ Some k
       → (floor ≤ b.body.descriptor.base + length k.rows) × (b.body.descriptor.base + length k.rows ≤ 262144)
 
 module _ {S D C B : Type 0} (cell : C → Option Cell) where
-  pub record TookCell (c : ℕ) (m : Me (Stored S D C B) LaneView) (r : ℕ) (n : Me (Stored S D C B) LaneView) : Type 0 where
-    pub free : r ≡ 0 → (y : C) × (n ≡ (took_cell c (cell y) m.0, (cell_word c, is.Cell y) ∷ m.1)) × FindsAsBooks m.0 c (cell y) × FindsAsBody m.0 c (cell y)
+  pub record TookCell (c : ℕ) (m : Me (Stored S D C B) LaneView) (r : ℕ) (n : Me (Stored S D C B) LaneView) : Type
+      0 where
+    pub free : r ≡ 0 → (y : C) × (n ≡ (took_cell c (cell y) m.0, (cell_word c, is.Cell y) ∷ m.1))
+        × FindsAsBooks m.0 c (cell y) × FindsAsBody m.0 c (cell y)
     pub busy : r ≢ 0 → n ≡ m
 
 module _ {A : Type 0} where
@@ -221,8 +238,10 @@ pub record DirChange (v : LaneView) (u : Task) (files now : Files) : Type 0 wher
   pub changed : (now ≡ files) ⊎ ChangesOwn v.known.task files now
   -- what is marked as written has its text in all books that fit
   pub written : (o : Output) → u.output ≡ Some o → o.written ≡ true
-      → ((v.known.task.output ≡ Some o) × (file_of o.meta.number now ≡ file_of o.meta.number files)) ⊎ ((b : Books) → Fits b v.known → HasItsText b now o.meta.number)
-  pub taken : (k : Mark) → In k (marks_of u.job) → k.taken ≡ true → In k (marks_of v.known.task.job) ⊎ (file_of k.number now ≡ None)
+      → ((v.known.task.output ≡ Some o) × (file_of o.meta.number now ≡ file_of o.meta.number files))
+      ⊎ ((b : Books) → Fits b v.known → HasItsText b now o.meta.number)
+  pub taken : (k : Mark) → In k (marks_of u.job) → k.taken ≡ true → In k (marks_of v.known.task.job)
+      ⊎ (file_of k.number now ≡ None)
 
 -- a read of a file of a SuperVersion of which the lane has a reference
 pub record IsOwnRead (v : LaneView) (files : Files) (x : FileRead) : Type 0 where

@@ -16,7 +16,8 @@ pub record NumberOk (b : Books) (work : Work) (f n : ℕ) : Type 0 where
   pub is : 256 ≤ n → IsPackOf b.supers f n
   pub other : 0 < excepts f work → 256 ≤ n → n ≢ current_of b f
   -- it is the newest of the family's SuperVersions but for the current
-  pub last : 256 ≤ n → (t : ℕ) → IsSerialOf b.supers f t → (t ≤ n / 256) ⊎ ((0 < excepts f work) × (t ≡ current_of b f / 256))
+  pub last : 256 ≤ n → (t : ℕ) → IsSerialOf b.supers f t → (t ≤ n / 256)
+      ⊎ ((0 < excepts f work) × (t ≡ current_of b f / 256))
   pub first : 0 < excepts f work → n ≡ 0 → (t : ℕ) → IsSerialOf b.supers f t → t ≡ current_of b f / 256
   pub ends : 256 ≤ n → end_at b n ≡ writes b.journal f
 

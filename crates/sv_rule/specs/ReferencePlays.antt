@@ -28,7 +28,8 @@ added x v = record v { hand = x.pack ∷ v.hand; known = record v.known { bodies
 -- the lane has a reference with this body; or it has the DB lock and no work, and the body is that of a current
 abbrev pub CanAdd : Bodied → LaneView → Type 0
 CanAdd x v = ((0 < holds x.pack v) × In x v.known.bodies)
-    ⊎ ((d : Desk) × (f : ℕ) × (v.locks.db ≡ Some d) × (d.work ≡ idle) × (f < 16) × (x.pack ≡ current_of d.books f) × BodyFits d.books x)
+    ⊎ ((d : Desk) × (f : ℕ) × (v.locks.db ≡ Some d) × (d.work ≡ idle) × (f < 16) × (x.pack ≡ current_of d.books f)
+    × BodyFits d.books x)
 
 -- ---- kind 10, reference sub
 
@@ -56,7 +57,11 @@ MayDropAt p lanes hand (Some d) = MayDrop p lanes d.books hand d.work
 
 -- one fewer, with its cleanup owed where it was the last
 abbrev pub dropped : ℕ → Bool → LaneView → LaneView
-dropped p last v = record v { locks = record v.locks { db = lowers p v.locks.db }; hand = without p v.hand; owes = cond last (p ∷ v.owes) v.owes }
+dropped p last v = record v {
+  locks = record v.locks { db = lowers p v.locks.db };
+  hand = without p v.hand;
+  owes = cond last (p ∷ v.owes) v.owes;
+}
 
 -- the count in a reference word was 1
 abbrev pub was_last : ℕ → Bool
@@ -92,7 +97,8 @@ pub record MayOpen (v : LaneView) (f : ℕ) (x : Bodied) (b : Books) (u : Task) 
   pub turns : Turns v.known.lane desk.books v.known.task b u []
   pub made : Opens desk.books b f x.pack
   pub memtable : (b.memtables ≡ desk.books.memtables)
-      ⊎ ((c : ℕ) × (m : Memtable) × (found : Option Cell) × IsNewMemtable desk.books b c m × (v.locks.cell ≡ Some (record { number = c; found = found })))
+      ⊎ ((c : ℕ) × (m : Memtable) × (found : Option Cell) × IsNewMemtable desk.books b c m
+      × (v.locks.cell ≡ Some (record { number = c; found = found })))
   pub body : BodyFits b x
   pub room : length v.hand < most_hand
 
@@ -126,7 +132,8 @@ module _ {A : Type 0} where
     -- no reference that the lane has twice is the last, nor one that a sweep took, nor one of a current
     pub more : 2 ≤ total (same p) m.0.hand → was_last r ≡ false
     pub swept : 0 < has_taken_at p m.0.locks.db → was_last r ≡ false
-    pub current : (d : Desk) (f : ℕ) → m.0.locks.db ≡ Some d → d.work ≡ idle → f < 16 → p ≡ current_of d.books f → was_last r ≡ false
+    pub current : (d : Desk) (f : ℕ) → m.0.locks.db ≡ Some d → d.work ≡ idle → f < 16 → p ≡ current_of d.books f
+        → was_last r ≡ false
 
   abbrev pub Opened : ℕ → Bodied → Books → Task → Desk → Me A LaneView → ℕ → Me A LaneView → Type 0
   Opened f x b u d m r n = n ≡ (opened f x b u d m.0, m.1)

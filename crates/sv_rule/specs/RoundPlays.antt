@@ -18,13 +18,26 @@ use Rattle.sv_rule.specs.Views.{Bodied, Desk, LaneView, Task, begun, idle, sweep
 
 -- the lane found the round word r
 abbrev pub framed : ℕ → LaneView → LaneView
-framed r v = record v { known = record v.known { frames = cond (r == v.known.round) (v.loads ∷ v.known.frames) v.known.frames; round = r }; loads = [] }
+framed r v = record v {
+  known = record v.known {
+    frames = cond (r == v.known.round) (v.loads ∷ v.known.frames)
+        v.known.frames;
+    round = r;
+  };
+  loads = [];
+}
 
 -- ---- kind 8, round add
 
 -- the work on family f begins
 abbrev pub rounded : ℕ → Desk → LaneView → LaneView
-rounded f d v = record v { locks = record v.locks { db = Some (record { books = d.books; work = begun f; due = d.due }) }; counts = record v.counts { adds = v.counts.adds + 1 } }
+rounded f d v = record v {
+  locks = record v.locks {
+    db = Some
+        (record { books = d.books; work = begun f; due = d.due });
+  };
+  counts = record v.counts { adds = v.counts.adds + 1 };
+}
 
 abbrev pub is_retired_in : Option Family → Bool
 is_retired_in None = false
@@ -87,6 +100,7 @@ module _ {A : Type 0} where
   abbrev pub EndedCurrent : ℕ → Books → Task → Desk → Me A LaneView → ℕ → Me A LaneView → Type 0
   EndedCurrent f b u d m r n = n ≡ (ended_current f b u d m.0, m.1)
 
-  pub record Numbered (d : Desk) (f p : ℕ) (olds : List Bodied) (m : Me A LaneView) (r : ℕ) (n : Me A LaneView) : Type 0 where
+  pub record Numbered (d : Desk) (f p : ℕ) (olds : List Bodied) (m : Me A LaneView) (r : ℕ) (n : Me A LaneView) : Type
+      0 where
     pub is : n ≡ (numbered d f p olds r m.0, m.1)
     pub was : NumberOk d.books (begun f) f r

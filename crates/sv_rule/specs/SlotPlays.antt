@@ -13,11 +13,23 @@ use Rattle.sv_rule.specs.ReferencePlays.{learnt}
 
 -- the slot of family f is x, after a step on it that found the word r; what is cached there is c
 abbrev pub slotted : ℕ → SlotView → ℕ → ℕ → LaneView → LaneView
-slotted f x c r v = record v { slots = record v.slots { slot = put away v.slots.slot f x; cached = put 0 v.slots.cached f c; met = put 0 v.slots.met f r } }
+slotted f x c r v = record v {
+  slots = record v.slots {
+    slot = put away v.slots.slot f x;
+    cached = put 0 v.slots.cached f c;
+    met = put 0 v.slots.met f r;
+  };
+}
 
 -- k uses more, l misses, and n answers Swept
 abbrev pub counted : ℕ → ℕ → ℕ → LaneView → LaneView
-counted k l n v = record v { counts = record v.counts { uses = v.counts.uses + k; misses = v.counts.misses + l; swept = v.counts.swept + n } }
+counted k l n v = record v {
+  counts = record v.counts {
+    uses = v.counts.uses + k;
+    misses = v.counts.misses + l;
+    swept = v.counts.swept + n;
+  };
+}
 
 -- the lane has the DB lock and no work, and p is the current of f
 abbrev pub IsCurrentAt : ℕ → ℕ → Option Desk → Type 0
@@ -29,9 +41,16 @@ IsCurrentAt f p (Some d) = d.work ≡ idle → p ≡ current_of d.books f
 module _ {S D C B : Type 0} (body : B → Body) where
   -- The lane has its slot, with what lay at it, unless a sweep has it. k uses are counted.
   pub record Used (f k : ℕ) (m : Me (Stored S D C B) LaneView) (r : ℕ) (n : Me (Stored S D C B) LaneView) : Type 0 where
-    pub empty : r ≡ 0 → n ≡ (counted k k 0 (slotted f (held 0) 0 r m.0), (slot_home (spot m.0.known.lane f), is.Nothing) ∷ m.1)
+    pub empty : r ≡ 0 → n ≡ (
+      counted k k 0 (slotted f (held 0) 0 r m.0),
+      (slot_home (spot m.0.known.lane f), is.Nothing) ∷ m.1,
+    )
     pub cached : 256 ≤ r → (x : SvRef B) × (x.pack ≡ r)
-        × (n ≡ (learnt (record { pack = r; body = body x.body.value } ∷ []) (counted k 0 0 (slotted f (held r) 0 r m.0)), (slot_home (spot m.0.known.lane f), is.Cached x) ∷ m.1))
+        × (n ≡ (
+          learnt (record { pack = r; body = body x.body.value } ∷ [])
+              (counted k 0 0 (slotted f (held r) 0 r m.0)),
+          (slot_home (spot m.0.known.lane f), is.Cached x) ∷ m.1,
+        ))
     pub swept : 0 < r → r < 256 → n ≡ (counted k k 0 (slotted f away 0 r m.0), m.1)
     pub marks : r < 256 → r < 3
     pub current : 256 ≤ r → IsCurrentAt f r m.0.locks.db
@@ -41,7 +60,8 @@ module _ {S D C B : Type 0} (body : B → Body) where
 
 module _ {S D C B : Type 0} where
   -- the slot is home with the reference of p, unless a sweep was there
-  pub record PutBack (f p : ℕ) (m : Me (Stored S D C B) LaneView) (r : ℕ) (n : Me (Stored S D C B) LaneView) : Type 0 where
+  pub record PutBack (f p : ℕ) (m : Me (Stored S D C B) LaneView) (r : ℕ) (n : Me (Stored S D C B) LaneView) : Type
+      0 where
     pub home : r ≡ 1 → n ≡ (slotted f away p r m.0, rest m.1)
     pub swept : r ≢ 1 → (r ≡ 2) × (n ≡ (counted 0 0 1 (slotted f (held p) 0 r m.0), m.1))
 
@@ -68,21 +88,34 @@ is_free x = false
 
 abbrev pub is_idle : Option Desk → Bool
 is_idle None = false
-is_idle (Some d) = elim d.work as (λ _. Bool) [ idle ↦ true | opens _ ↦ false | begun _ ↦ false | sweeping _ _ _ _ _ ↦ false ]
+is_idle (Some d) = elim d.work as (λ _. Bool) [
+  | idle ↦ true
+  | opens _ ↦ false
+  | begun _ ↦ false
+  | sweeping _ _ _ _ _ ↦
+      false
+]
 
 -- The load of r, by a lane that has the DB lock and no work and the pack r in hand, makes of an empty slot a borrow of r.
 abbrev pub lends : ℕ → ℕ → LaneView → Bool
-lends f r v = cond (is_free (slot_of v f)) (cond (is_idle v.locks.db) (cond (nat_le 256 r) (nat_le 1 (total (same r) v.hand)) false) false) false
+lends f r v = cond (is_free (slot_of v f)) (cond (is_idle v.locks.db)
+    (cond (nat_le 256 r) (nat_le 1 (total (same r) v.hand)) false) false) false
 
 abbrev pub looked_by : Bool → ℕ → ℕ → LaneView → LaneView
 looked_by true f r v = record v {
-  slots = record v.slots { slot = put away v.slots.slot f (borrow r (at 0 v.known.seen f)); looked = put 0 v.slots.looked f r };
+  slots = record v.slots {
+    slot = put away v.slots.slot f (borrow r (at 0 v.known.seen f));
+    looked = put 0 v.slots.looked f r;
+  };
   counts = record v.counts { looks = v.counts.looks + 1 };
   hand = without r v.hand;
   loads = record { family = f; pack = r } ∷ v.loads;
 }
 looked_by false f r v = record v {
-  slots = record v.slots { slot = put away v.slots.slot f (checked (slot_of v f) r (at 0 v.known.seen f)); looked = put 0 v.slots.looked f r };
+  slots = record v.slots {
+    slot = put away v.slots.slot f (checked (slot_of v f) r (at 0 v.known.seen f));
+    looked = put 0 v.slots.looked f r;
+  };
   counts = record v.counts { looks = v.counts.looks + 1 };
   loads = record { family = f; pack = r } ∷ v.loads;
 }

@@ -31,7 +31,8 @@ pub record Right (fits mid w n c : ℕ) (x : SlotView) : Type 0 where
 
 abbrev pub Rights : Work → (ℕ → ℕ) → (ℕ → ℕ) → List LaneView → Type 0
 Rights work number slot vs =
-    (l f : ℕ) → l < 32 → f < 16 → Right (fit work f l (number f)) (middle (spot l f) work) (slot (spot l f)) (number f) (cached_at vs l f) (slot_at vs l f)
+    (l f : ℕ) → l < 32 → f < 16 → Right (fit work f l (number f)) (middle (spot l f) work) (slot (spot l f))
+    (number f) (cached_at vs l f) (slot_at vs l f)
 
 pub record Sweep (work : Work) (number slot : ℕ → ℕ) (vs : List LaneView) : Type 0 where
   pub right : Rights work number slot vs

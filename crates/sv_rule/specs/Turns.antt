@@ -50,9 +50,12 @@ pub record OwnTurns (l : ℕ) (a : Books) (t : Task) (b : Books) (u : Task) (mor
   pub later : After a b
   pub journal : b.journal ≡ a.journal ++ more
   pub own : Every (λ w. w.lane ≡ l) more
-  pub outputs : (n : ℕ) → having is_pending n b.files.numbers + has_output n t ≡ having is_pending n a.files.numbers + has_output n u
-  pub grabbed : (n : ℕ) → having is_grabbed n b.files.numbers + grabs n t ≡ having is_grabbed n a.files.numbers + grabs n u
-  pub removed : (n : ℕ) → having is_gone n b.files.numbers + times n t.removed ≡ having is_gone n a.files.numbers + times n u.removed
+  pub outputs : (n : ℕ) → having is_pending n b.files.numbers + has_output n t ≡ having is_pending n
+      a.files.numbers + has_output n u
+  pub grabbed : (n : ℕ) → having is_grabbed n b.files.numbers + grabs n t ≡ having is_grabbed n
+      a.files.numbers + grabs n u
+  pub removed : (n : ℕ) → having is_gone n b.files.numbers + times n t.removed ≡ having is_gone n
+      a.files.numbers + times n u.removed
   pub ended : (n : ℕ) → gone_snapshot n b.snapshots + times n t.ended ≡ gone_snapshot n a.snapshots + times n u.ended
   pub jobs : b.files.jobs + has_job t ≡ a.files.jobs + has_job u
   pub holds : at 0 b.files.holds l + t.holds ≡ at 0 a.files.holds l + u.holds
@@ -76,14 +79,16 @@ pub record Turns (l : ℕ) (a : Books) (t : Task) (b : Books) (u : Task) (more :
   pub written : (o : Output) → u.output ≡ Some o → o.written ≡ true → t.output ≡ Some o
   -- what becomes Live is the lane's written output, and what becomes Gone was taken away
   pub live : (n : ℕ) → 1 ≤ having is_live n b.files.numbers → (1 ≤ having is_live n a.files.numbers) ⊎ IsWritten t n
-  pub gone : (n : ℕ) → 1 ≤ having is_gone n b.files.numbers → (1 ≤ having is_gone n a.files.numbers) ⊎ In (taken_mark n) (marks_of t.job)
+  pub gone : (n : ℕ) → 1 ≤ having is_gone n b.files.numbers → (1 ≤ having is_gone n a.files.numbers)
+      ⊎ In (taken_mark n) (marks_of t.job)
   pub marks : (k : Mark) → In k (marks_of u.job) → k.taken ≡ true → In k (marks_of t.job)
 
 -- ---- what changes of SuperVersions, currents and memtables
 
 -- Each family of the one is one of the other, and retired in both or in none.
 pub record NoneRetires (a b : List Family) : Type 0 where
-  pub goes : (f : ℕ) (x : Family) → slice_get a f ≡ Some x → (y : Family) × (slice_get b f ≡ Some y) × (is_retired y ≡ is_retired x)
+  pub goes : (f : ℕ) (x : Family) → slice_get a f ≡ Some x → (y : Family) × (slice_get b f ≡ Some y)
+      × (is_retired y ≡ is_retired x)
   pub long : length a ≤ length b
 
 -- The DB lock is given, or a cell: SuperVersions, currents and memtables stand.
@@ -127,9 +132,11 @@ pub record EndsCurrent (a b : Books) (f : ℕ) : Type 0 where
   pub none : top.current ≡ None
   pub others : (g : ℕ) → g ≢ f → slice_get b.tops g ≡ slice_get a.tops g
   pub long : length b.families ≡ length a.families
-  pub families : (g : ℕ) (x y : Family) → g ≢ f → slice_get a.families g ≡ Some x → slice_get b.families g ≡ Some y → is_retired y ≡ is_retired x
+  pub families : (g : ℕ) (x y : Family) → g ≢ f → slice_get a.families g ≡ Some x → slice_get b.families g ≡ Some y
+      → is_retired y ≡ is_retired x
   -- what was retired stays so
-  pub same : (x y : Family) → slice_get a.families f ≡ Some x → slice_get b.families f ≡ Some y → is_retired x ≡ true → is_retired y ≡ true
+  pub same : (x y : Family) → slice_get a.families f ≡ Some x → slice_get b.families f ≡ Some y → is_retired x ≡ true
+      → is_retired y ≡ true
 
 -- the SuperVersion of serial t is Gone
 pub record IsGone (a b : List SuperVersion) (t : ℕ) : Type 0 where
@@ -152,7 +159,8 @@ pub record EndsSuper (a b : Books) (p : ℕ) (cells : List ℕ) : Type 0 where
   pub tops : b.tops ≡ a.tops
   pub families : b.families ≡ a.families
   pub memtables : EndsMemtables a.memtables b.memtables
-  pub freed : (m : ℕ) (x y : Memtable) → entry a.memtables m ≡ Some x → entry b.memtables m ≡ Some y → x.live ≡ true → y.live ≡ false → In x.cell cells
+  pub freed : (m : ℕ) (x y : Memtable) → entry a.memtables m ≡ Some x → entry b.memtables m ≡ Some y → x.live ≡ true
+      → y.live ≡ false → In x.cell cells
 
 -- ---- what the rule tells a lane of its own
 
@@ -164,6 +172,7 @@ pub record IsAccounted (l : ℕ) (b : Books) (t : Task) : Type 0 where
   pub holds : at 0 b.files.holds l ≡ t.holds
   pub handles : (f : ℕ) → 0 < f → handle b.families l f ≡ times f t.handles
   pub default : times 0 t.handles ≡ 1
-  pub output : (o : Output) → t.output ≡ Some o → (1 ≤ having is_pending o.meta.number b.files.numbers) × In o.meta b.metas
+  pub output : (o : Output) → t.output ≡ Some o → (1 ≤ having is_pending o.meta.number b.files.numbers)
+      × In o.meta b.metas
   pub job : (k : Mark) → In k (marks_of t.job) → 1 ≤ having is_grabbed k.number b.files.numbers
   pub jobs : has_job t ≤ b.files.jobs
