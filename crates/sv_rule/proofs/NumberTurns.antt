@@ -21,7 +21,7 @@ use Rattle.sv_rule.specs.Turns.{EndsCurrent, EndsSuper, Opens, Stands}
 use Rattle.sv_rule.specs.UnderWay.{excepts}
 use Rattle.sv_rule.specs.Views.{Work, begun, idle, opens, sweeping}
 use Rattle.sv_rule.proofs.Basics.{some_is, true_not}
-use Rattle.sv_rule.proofs.CurrentLaws.{current_ends, current_is, current_marks, get_lt, one_pack, pack_big, pack_le, serial_le, some-at}
+use Rattle.sv_rule.proofs.CurrentLaws.{current_big, current_ends, current_is, current_marks, get_lt, one_pack, pack_big, pack_le, serial_le, some-at}
 use Rattle.sv_rule.proofs.LaterBooks.{based-after, based-live, end-same, pack-after}
 use Rattle.sv_rule.proofs.Sums.{same-else, same-self}
 
@@ -66,6 +66,7 @@ module _ (a b : Books) (later : After a b) (lawful : Lawful b) (stands : Stands 
           same_now,
           ap (λ (z : List SuperVersion). length z) stands.supers,
         );
+    default = k.default;
     based = based-stands a b later stands.supers k.based;
   }
 
@@ -117,6 +118,14 @@ module _ (a b : Books) (later : After a b) (before : Lawful a) (f p : ℕ) (h : 
       by_top None e = refl
       by_top (Some t) e = by_serial t e t.current refl
 
+  -- `default` was there before, and had a current
+  had_default : 0 ≡ f → 256 ≤ current_of a 0
+  had_default e =
+      let default = before.default in
+      let t = some-at a.tops 0 (omega (arith, get_lt a.families 0 default.it default.at, before.paired)) in
+      let s = h.had t.0 (ap (slice_get a.tops) (sym e) ∙ t.1) in
+      current_big a before 0 record { family = default.it; family_at = default.at; top = t.0; top_at = t.1; serial = s.0; is = s.1 }
+
   -- the old number word stays, and the work is set
   pub numbers-opens : (number : ℕ → ℕ) → Lawful b → b.journal ≡ a.journal → Numbers a idle number
       → Numbers b (opens f) number
@@ -149,6 +158,9 @@ module _ (a b : Books) (later : After a b) (before : Lawful a) (f p : ℕ) (h : 
     top = λ g l z y. dite (ℕ_discrete g f)
         (λ e. ap (λ c. current_of b c / 256) e ∙ (ap (λ c. c / 256) h.current ∙ sym opens-long))
         (λ n. absurd (omega (arith, same-else f g n)));
+    default = λ z. dite (ℕ_discrete 0 f)
+        (λ e. omega (arith, had_default e, (k.word 0 (omega arith)).current refl))
+        (λ n. absurd (omega (arith, z, same-else f 0 n)));
     based = λ t x at. ⊎_elim
         (λ old. let z = later.supers t x old in subst (IsBased b.memtables) (some_is (sym z.1 ∙ at))
         (based-after a b later x z.0 z.2 (k.based t x old)))
@@ -198,6 +210,7 @@ module _ (a b : Books) (later : After a b) (p : ℕ) (cells : List ℕ) (h : End
       ends = λ y. end-same a b later journal g (number g) (o.is y) ∙ (o.ends y ∙ ap (λ z. writes z g) (sym journal));
     };
     top = λ g l z y. omega (arith, k.top g l z (omega (arith, gone-current g)), gone-current g, h.gone.long);
+    default = k.default;
     based = λ t x at. dite (ℕ_discrete t (p / 256))
         (λ s. let z = later.supers t h.gone.sv (ap (entry a.supers) s ∙ h.gone.was) in
         subst (IsBased b.memtables) (some_is (sym z.1 ∙ at))
@@ -242,5 +255,7 @@ module _ (a b : Books) (later : After a b) (f : ℕ) (h : EndsCurrent a b f) whe
     };
     top = λ g l z y. dite (ℕ_discrete g f) (λ e. absurd (omega (arith, ap (current_of b) e, ended-current)))
         (λ n. absurd (omega (arith, same-else f g n)));
+    default = λ z. dite (ℕ_discrete 0 f) (λ e. omega (arith, big, ap number e))
+        (λ n. absurd (omega (arith, z, same-else f 0 n)));
     based = based-stands a b later h.supers k.based;
   }

@@ -40,6 +40,7 @@ numbers-work b work work' number e h = record {
     ends = k.ends;
   };
   top = λ f l z. h.top f l (omega (arith, e f));
+  default = λ z. h.default (omega (arith, z, e 0));
   based = h.based;
 }
 
@@ -79,6 +80,7 @@ module _ (b : Books) (f : ℕ) (near : f < 16) (number number' : ℕ → ℕ) (k
           ends = o.ends;
         }));
     top = λ g l z. absurd (omega arith);
+    default = λ z. absurd (omega (arith, z));
     based = k.based;
   }
 

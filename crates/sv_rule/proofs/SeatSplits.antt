@@ -158,11 +158,7 @@ module _ {S D C B : Type 0} (books : S → Books) (disk : D → Disk) (cell : C 
       (λ f pos. omega (arith, same-else f 0 (λ e. omega (arith, pos, e))))
       (λ _. (start_is, accounts-none kept.b v.seat.made v.known.start (0 ∷ []) kept.numbers.lawful later none))
       (kept.in_hand.joined id v me)
-      (λ excepted z. absurd (omega (
-        arith,
-        kept.in_hand.silent 0 (omega arith) excepted z id v me (db_none v may.db),
-        kept.in_hand.own_default id v me may.alive,
-      ))) kept.in_hand)
+      (λ excepted z. absurd (omega (arith, kept.numbers.default excepted, z))) kept.in_hand)
     where
       below_more : {n m : ℕ} → m ≡ n + 1 → (os : List Joined) → Every (λ o. o.known.lane < n) os
           → Every (λ o. o.known.lane < m) os

@@ -148,6 +148,7 @@ module _ {S D C B : Type 0} (books : S → Books) (disk : D → Disk) (cell : C 
       ends = current_ends b first.lawful f;
     });
     top = λ f near z. absurd (omega arith);
+    default = λ z. absurd (omega (arith, z));
     based = based-first b first.opening;
   }
 

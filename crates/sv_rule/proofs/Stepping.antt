@@ -242,5 +242,6 @@ numbers_same b work number₀ number₁ numbers h = record {
   lawful = h.lawful;
   word = λ f l. subst (λ (z : ℕ). NumberOk b work f z) (sym (numbers f l)) (h.word f l);
   top = h.top;
+  default = λ z. omega (arith, h.default z, numbers 0 (omega arith));
   based = h.based;
 }

@@ -33,5 +33,7 @@ pub record Numbers (b : Books) (work : Work) (number : ℕ → ℕ) : Type 0 whe
   pub word : (f : ℕ) → f < 16 → NumberOk b work f (number f)
   -- the current of a work that is set or begun is the newest of all SuperVersions
   pub top : (f : ℕ) → f < 16 → 0 < excepts f work → 256 ≤ current_of b f → current_of b f / 256 ≡ length b.supers
+  -- `default` has had a current from the opening on
+  pub default : 0 < excepts 0 work → 256 ≤ number 0
   -- each SuperVersion, also one that is Gone, begins where its active memtable does
   pub based : EachEntry (λ t x. IsBased b.memtables x) b.supers

@@ -17,7 +17,6 @@ split_right v = new_view v.seat.made v.seat.lanes 0 v.known.start
 
 pub record MaySplit (v : LaneView) : Type 0 where
   pub alive : v.seat.spent ≡ false
-  pub db : v.locks.db ≡ None
   pub first : 0 < v.seat.made
   pub more : v.seat.made < v.seat.lanes
 
