@@ -19,7 +19,7 @@ use Rattle.sv_rule.specs.Rule.{Kept}
 use Rattle.sv_rule.specs.Supers.{IsSerialOf, current_of}
 use Rattle.sv_rule.specs.Sweep.{Rights}
 use Rattle.sv_rule.specs.Table.{Box, cell_word, holders, holds, home, names, number, number_word, owers, owes, reference, reference_word, slot, slot_home, slot_word, word}
-use Rattle.sv_rule.specs.Tasks.{dues, faults, has_db, has_dir, some_count}
+use Rattle.sv_rule.specs.Tasks.{dues, faults, fills, has_db, has_dir, some_count}
 use Rattle.sv_rule.specs.Turns.{Stands, Turns}
 use Rattle.sv_rule.specs.UnderWay.{Stock, begins, sets, sets_on}
 use Rattle.sv_rule.specs.Views.{Body, Desk, Disk, Joined, LaneView, Seat, SlotView, Work, idle}
@@ -36,7 +36,6 @@ use Rattle.sv_rule.proofs.NumberTurns.{current-stands, numbers-stands}
 use Rattle.sv_rule.proofs.Places.{places_same}
 use Rattle.sv_rule.proofs.Resting.{held-by, says-books, says-step}
 use Rattle.sv_rule.proofs.RoundTurns.{has-current-same, loaded-turn, rounds-on}
-use Rattle.sv_rule.proofs.Settles.{fills_none}
 use Rattle.sv_rule.proofs.Stepping.{fresh_stay, fresh_view, holders_by_view, next, numbers_same, rights_stay, rounds_view, view_same, views_move}
 use Rattle.sv_rule.proofs.TurnRest.{journal-stands}
 
@@ -52,12 +51,12 @@ module _ {S D C B : Type 0} (books : S → Books) (disk : D → Disk) (cell : C 
       → w.known.start ≡ v.known.start → w.counts.faults ≡ v.counts.faults → w.locks.cell ≡ v.locks.cell
       → w.locks.dir ≡ v.locks.dir
       → w.hand ≡ v.hand → w.owes ≡ v.owes → fresh_view w ≡ fresh_view v → rounds_view w ≡ rounds_view v
-      → v.locks.cell ≡ None → ((k : ℕ) → dues k v ≤ dues k w)
+      → ((k : ℕ) → fills k v ≤ fills k w) → ((k : ℕ) → dues k v ≤ dues k w)
       → Turns v.known.lane kept.b v.known.task b w.known.task [] → Stands kept.b b → Accounts b w.known
       → Lock (IsState {S = S} {D = D} {C = C} {B = B} books b idle) has_db x (get_elem? homes 0) W.views
       → Desks b idle W.views → Kept books disk cell body W
   kept-by-db b resting long others alive seat lane joined start same_faults same_cell same_dir same_hand owed stand
-      circles bare due turns stands mine lock desks =
+      circles filled due turns stands mine lock desks =
       let a = kept.b in let later = turns.counts.later in let lawful = turns.counts.lawful in
       let before = kept.numbers.lawful in
       let journal : b.journal ≡ a.journal = journal-stands a.journal b.journal turns.counts.journal in
@@ -71,7 +70,7 @@ module _ {S D C B : Type 0} (books : S → Books) (disk : D → Disk) (cell : C 
       let current : (f : ℕ) → current_of b f ≡ current_of a f = current-stands a b stands in
       let says : (k : ℕ) (y : Option Cell) → Says a s.views k y → Says b W.views k y = λ k y h.
       says-books a b W.views k y stands.memtables journal
-      (says-step a s.views id v w me k y (due k) (omega (arith, fills_none v bare k)) h) in
+      (says-step a s.views id v w me k y (due k) (filled k) h) in
       kept-by-lock books disk cell body s kept id v w me x homes b idle long others lock desks
       record {
         dir = subst (λ (z : ℕ × Box (Stored S D C B)). Lock (IsDir {S = S} {D = D} {C = C} {B = B} disk kept.d)

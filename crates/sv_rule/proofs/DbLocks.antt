@@ -1,5 +1,5 @@
 -- The kinds lock take and lock give keep the rule, for the DB lock.
-use Rattle.std.proofs.Common.{List, None, Option, Some, [], ap, arith, eqb, length-set, option_map, refl, set, subst, sym, ℕ, ◌∙◌, ◌∷◌, ◌≡◌}
+use Rattle.std.proofs.Common.{List, None, Option, Some, [], ap, arith, eqb, false, length-set, option_map, refl, set, subst, sym, ℕ, ◌∙◌, ◌∷◌, ◌≡◌}
 use mathlib.Core.Option.{none, some}
 use prog.Atomic.{either}
 use Rattle.atomic_table.proofs.Lists.{exchanged, set_again, set_else, set_here}
@@ -11,10 +11,10 @@ use Rattle.sv_model.specs.Lists.{times}
 use Rattle.sv_model.proofs.AfterLaws.{after-itself}
 use Rattle.sv_rule.specs.Fits.{BodyFits}
 use Rattle.sv_rule.specs.Home.{IsState, Lock}
-use Rattle.sv_rule.specs.LockPlays.{GaveDb, IsTold, MayGiveDb, MayTakeDb, TookDb, gave_db, took_db}
+use Rattle.sv_rule.specs.LockPlays.{GaveDb, IsTold, MayGiveDb, TookDb, gave_db, took_db}
 use Rattle.sv_rule.specs.Rule.{Kept}
 use Rattle.sv_rule.specs.Table.{Box, home, number, word}
-use Rattle.sv_rule.specs.Tasks.{due_count, dues, has_db}
+use Rattle.sv_rule.specs.Tasks.{due_count, dues, fill_count, fills, has_db}
 use Rattle.sv_rule.specs.Turns.{Stands, Turns}
 use Rattle.sv_rule.specs.Views.{Body, Desk, Disk, LaneView, Task, idle}
 use Rattle.sv_rule.specs.declared.parts.Stored.{Stored}
@@ -25,6 +25,7 @@ use Rattle.sv_rule.proofs.FitLaws.{body-after}
 use Rattle.sv_rule.proofs.LockLaws.{alone, lock-gave, lock-none, lock-took}
 use Rattle.sv_rule.proofs.Told.{told}
 use Rattle.sv_rule.proofs.TurnRest.{mine-turns}
+use Rattle.sv_rule.proofs.Settles.{fills_none}
 use Rattle.sv_rule.proofs.TurnsSame.{stands-same, turns-same}
 
 -- the state that lies in front, or st
@@ -40,9 +41,9 @@ no_desk_now : (d : Desk) → None ≡ Some d → ⊥
 no_desk_now d e = cc
 
 module _ {S D C B : Type 0} (books : S → Books) (disk : D → Disk) (cell : C → Option Cell) (body : B → Body) where
-  pub takes_db : (n id : ℕ) (m : Me (Stored S D C B) LaneView) → MayTakeDb m.0
+  pub takes_db : (n id : ℕ) (m : Me (Stored S D C B) LaneView) → m.0.seat.spent ≡ false
       → Allows (Kept books disk cell body) n id m 0 (λ y. either (eqb y 0) 1 y) (TookDb books m)
-  takes_db n id m may s kept long me fits =
+  takes_db n id m alive s kept long me fits =
       let v = m.0 in let r : ℕ = word s 0 in
       exchanged r 0 1 (λ y. (w : LaneView) × (a : Act (Stored S D C B)) × Valid s.homes m.1 a
       × Kept books disk cell body (stepped s 0 y id m.1 w a) × TookDb books m r (w, carried_after m.1 a))
@@ -55,16 +56,19 @@ module _ {S D C B : Type 0} (books : S → Books) (disk : D → Disk) (cell : C 
       (home s 0) s.views id v me e kept.home.db in
       let no_due : (k : ℕ) → dues k v ≡ 0 = λ k. ap (λ (o : Option Desk). due_count k
       (option_map (λ (d : Desk). d.due) o)) (no_db v no_lock) in
+      let no_fill : (k : ℕ) → fills k v ≡ 0 = λ k. ap (λ (o : Option Desk). fill_count k
+          (option_map (λ (d : Desk). d.due) o) v.locks.cell) (no_db v no_lock) in
       let resting = y.3 in
-      let accounts = kept.in_hand.accounts id v me may.alive in
+      let accounts = kept.in_hand.accounts id v me alive in
       let f = accounts.fits in (
         w,
         takes 0 (is.State y.0),
         t.1 ∙ ap (λ z. some (some z)) y.1,
         kept-by-db books disk cell body s kept id v w me 1 homes kept.b resting (length-set s.homes 0 none)
             (λ k ne. set_else s.homes 0 k none ne)
-            may.alive refl refl refl refl refl refl refl refl refl refl refl may.cell (λ k. omega (arith, no_due k))
-            (turns-same kept.b kept.work kept.start kept.d (number s) s.views id v me may.alive kept.in_hand f.lawful)
+            alive refl refl refl refl refl refl refl refl refl refl refl (λ k. omega (arith, no_fill k))
+            (λ k. omega (arith, no_due k))
+            (turns-same kept.b kept.work kept.start kept.d (number s) s.views id v me alive kept.in_hand f.lawful)
             (stands-same kept.b)
             record {
               fits = record {
@@ -98,7 +102,7 @@ module _ {S D C B : Type 0} (books : S → Books) (disk : D → Disk) (cell : C 
             y.0,
             refl,
             subst (IsTold v) (sym y.2)
-                (told books disk cell body s kept id v me may.alive resting),
+                (told books disk cell body s kept id v me alive resting),
           );
           busy = λ ne. absurd (ne e);
         },
@@ -141,7 +145,8 @@ module _ {S D C B : Type 0} (books : S → Books) (disk : D → Disk) (cell : C 
         tt,
         kept-by-db books disk cell body s kept id v w me 0 homes b (sym h.1 ∙ may.resting)
             (length-set s.homes 0 (some (is.State st))) (λ k ne. set_else s.homes 0 k (some (is.State st)) ne)
-            may.alive refl refl refl refl refl refl refl refl refl refl refl may.cell (λ k. omega (arith, no_due k))
+            may.alive refl refl refl refl refl refl refl refl refl refl refl
+            (λ k. omega (arith, fills_none v may.cell k)) (λ k. omega (arith, no_due k))
             turns stands
             record {
               fits = record {

@@ -36,11 +36,6 @@ gave_db b u v = record v {
   known = record v.known { left = v.known.left ++ b ∷ []; task = u };
 }
 
-pub record MayTakeDb (v : LaneView) : Type 0 where
-  pub alive : v.seat.spent ≡ false
-  pub cell : v.locks.cell ≡ None
-  pub dir : v.locks.dir ≡ None
-
 -- the lane has no work under way, no cell's lock and no cell to make vacant, and leaves these books
 pub record MayGiveDb (v : LaneView) (b : Books) (u : Task) : Type 0 where
   pub alive : v.seat.spent ≡ false
