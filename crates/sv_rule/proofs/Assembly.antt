@@ -111,7 +111,8 @@ module _ {S D C B : Type 0} (books : S → Books) (disk : D → Disk) (cell : C 
             dir = rest.dir;
             disks = rest.disks;
             slots = λ k l. subst (λ (z : ℕ × Box (Stored S D C B)). SlotOk z.0 z.1)
-                (λ c. (sym (z_stays (slot_word k) (λ z. omega arith)) c, sym (others (slot_home k) (λ z. omega arith)) c))
+                (λ c. (sym (z_stays (slot_word k) (λ z. omega arith)) c,
+                sym (others (slot_home k) (λ z. omega arith)) c))
                 (kept.home.slots k l);
           };
           ledger = record { places = places; hands = hands_step s 0 x homes id v w me kept.ledger.hands few };
@@ -159,8 +160,9 @@ module _ {S D C B : Type 0} (books : S → Books) (disk : D → Disk) (cell : C 
           d = kept.d;
           home = record {
             seats = seats_step s (slot_word i) x homes id v w me kept.home.seats long slots shaped dead;
-            db = subst (λ (z : ℕ × Box (Stored S D C B)). Lock (IsState {S = S} {D = D} {C = C} {B = B} books kept.b work)
-                has_db z.0 z.1 M.views) (λ c. (sym (m_stays 0 (λ z. omega arith)) c, sym (others 0 (λ z. omega arith)) c))
+            db = subst (λ (z : ℕ × Box (Stored S D C B)). Lock
+                (IsState {S = S} {D = D} {C = C} {B = B} books kept.b work) has_db z.0 z.1 M.views)
+                (λ c. (sym (m_stays 0 (λ z. omega arith)) c, sym (others 0 (λ z. omega arith)) c))
                 lock;
             desks = desks;
             dir = rest.dir;

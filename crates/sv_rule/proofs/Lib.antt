@@ -9,11 +9,13 @@ pub mod NumberTurns
 pub mod NumberWorks
 pub mod FreshTurns
 pub mod RoundTurns
+pub mod RoundRises
 pub mod PassedRows
 pub mod Metas
 pub mod Statuses
 pub mod FitLaws
 pub mod InHandTurns
+pub mod OwnTurnLaws
 pub mod CurrentTurns
 pub mod FileTurns
 pub mod CellLaws
@@ -22,6 +24,7 @@ pub mod Assembly
 pub mod DbLock
 pub mod Drops
 pub mod References
+pub mod ReferenceSteps
 pub mod OwnSlots
 pub mod SlotUses
 pub mod SlotPuts
@@ -59,6 +62,7 @@ pub mod SeatJoins
 pub mod FirstBooks
 pub mod FirstWork
 pub mod Starts
+pub mod NewBooks
 pub mod Closes
 pub mod Holding
 pub mod Installs

@@ -29,7 +29,8 @@ use Rattle.sv_rule.proofs.Basics.{each_other, each_set, has_one, true_not}
 use Rattle.sv_rule.proofs.FreshTurns.{fresh-stands, stock-turn}
 use Rattle.sv_rule.proofs.NumberTurns.{current-stands, numbers-stands}
 use Rattle.sv_rule.proofs.Places.{places_same}
-use Rattle.sv_rule.proofs.RoundTurns.{has-current-same, loaded-turn, rounds-on}
+use Rattle.sv_rule.proofs.RoundTurns.{loaded-turn, rounds-on}
+use Rattle.sv_rule.proofs.RoundRises.{has-current-same}
 use Rattle.sv_rule.proofs.Stepping.{apart_same, hands_step, holders_by_view, next, numbers_same, rights_stay, rounds_view, seat_view, seats_step, views_move, word_else}
 use Rattle.sv_rule.proofs.Sums.{term_le, total-set}
 

@@ -124,7 +124,14 @@ module _ (a b : Books) (later : After a b) (before : Lawful a) (f p : ℕ) (h : 
       let default = before.default in
       let t = some-at a.tops 0 (omega (arith, get_lt a.families 0 default.it default.at, before.paired)) in
       let s = h.had t.0 (ap (slice_get a.tops) (sym e) ∙ t.1) in
-      current_big a before 0 record { family = default.it; family_at = default.at; top = t.0; top_at = t.1; serial = s.0; is = s.1 }
+      current_big a before 0 record {
+        family = default.it;
+        family_at = default.at;
+        top = t.0;
+        top_at = t.1;
+        serial = s.0;
+        is = s.1;
+      }
 
   -- the old number word stays, and the work is set
   pub numbers-opens : (number : ℕ → ℕ) → Lawful b → b.journal ≡ a.journal → Numbers a idle number

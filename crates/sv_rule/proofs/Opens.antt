@@ -22,7 +22,7 @@ use Rattle.sv_rule.specs.Fits.{BodyFits}
 use Rattle.sv_rule.specs.Fresh.{FreshOf}
 use Rattle.sv_rule.specs.InHand.{WorkHeld}
 use Rattle.sv_rule.specs.Numbers.{Numbers}
-use Rattle.sv_rule.specs.ReferencePlays.{MayOpen, Opened, opened}
+use Rattle.sv_rule.specs.ReferencePlays.{MayOpen, NewInCell, Opened, opened}
 use Rattle.sv_rule.specs.Rounds.{Rounds}
 use Rattle.sv_rule.specs.Rule.{Kept}
 use Rattle.sv_rule.specs.Supers.{LiveAt, current_of, pack}
@@ -41,7 +41,8 @@ use Rattle.sv_rule.proofs.FitLaws.{body-after}
 use Rattle.sv_rule.proofs.FreshTurns.{fresh-turn}
 use Rattle.sv_rule.proofs.NumberTurns.{numbers-opens, old-not-new, opens-others}
 use Rattle.sv_rule.proofs.Places.{IsOpened, places_open}
-use Rattle.sv_rule.proofs.RoundTurns.{bound-opens, loaded-opens, rounds-on}
+use Rattle.sv_rule.proofs.RoundTurns.{loaded-opens, rounds-on}
+use Rattle.sv_rule.proofs.RoundRises.{bound-opens}
 use Rattle.sv_rule.proofs.Stepping.{fresh_stay, holders_by_view, numbers_same, rights_stay, view_le, views_move, word_here}
 use Rattle.sv_rule.proofs.Sums.{cond-is, same-else, same-self}
 use Rattle.sv_rule.proofs.TurnRest.{journal-stands, mine-turns, rest-turns, says-opens, says-same}
@@ -139,7 +140,7 @@ module _ {S D C B : Type 0} (books : S → Books) (disk : D → Disk) (cell : C 
             (⊎_elim
             (λ (same_memtables : c.memtables ≡ d.books.memtables). says-same a c s.views id v w me d d' may.has refl
             refl journal (same_memtables ∙ ap (λ (z : Books). z.memtables) h.0) refl)
-            (λ (q : (e : ℕ) × (y : Memtable) × (found : Option Cell) × IsNewMemtable d.books c e y × (v.locks.cell ≡ Some (record { number = e; found = found }))).
+            (λ (q : NewInCell d.books c v).
             says-opens a c s.views id v w me d d' may.has refl refl journal q.1 q.0 q.2
             (subst (λ (z : Books). IsNewMemtable z c q.0 q.1) h.0 q.3) q.4 refl)
             may.memtable))

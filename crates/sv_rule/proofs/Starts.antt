@@ -275,33 +275,3 @@ module _ {S D C B : Type 0} (books : S → Books) (disk : D → Disk) (cell : C 
     };
     in_hand = work-first lanes_made b d first (number O) (λ f z. omega arith);
   }
-
--- ---- the books of a database that is new
-
-at-true : (n lane : ℕ) → lane < n → at 0 (map bit (replicate n true)) lane ≡ 1
-at-true zero lane l = absurd (omega arith)
-at-true (suc n) zero l = refl
-at-true (suc n) (suc lane) l = at-true n lane (omega arith)
-
-no_entry : {A : Type 0} (i : ℕ) (x : A) → entry [] i ≡ Some x → ⊥
-no_entry zero x e = cc
-no_entry (suc i) x e = cc
-
-pub new-books : (next : ℕ) (d : Disk) → IsOpening (opening_books next) → Lawful (opening_books next)
-    → FirstBooks (opening_books next) d
-new-books next d o lawful = record {
-  opening = o;
-  lawful = lawful;
-  default = λ lane few. at-true 32 lane few;
-  others = λ lane f pos. none_else lane f pos;
-  numbers = λ i x e. absurd (no_entry i x e);
-  files = λ files e. record {
-    live = λ n h. absurd (no_entry h.0 h.1 h.2);
-    gone = λ i x e _. absurd (no_entry i x e);
-    others = λ name h. refl;
-  };
-}
-  where
-    none_else : (lane f : ℕ) → 0 < f → handle (opening_books next).families lane f ≡ 0
-    none_else lane zero pos = absurd (omega arith)
-    none_else lane (suc f) pos = refl

@@ -1,5 +1,5 @@
--- What the steps on locks make of a view, what they need, and what they tell: of the seat before, the word found and the
--- seat after.
+-- What the steps on locks make of a view, what they need, and what they tell: of the seat before, the word found and
+-- the seat after.
 use Rattle.std.specs.Prelude.{◌≡◌, ◌≢◌, ◌≤◌, ◌<◌, ◌+◌, ◌/◌, ◌%◌, ◌++◌, ◌⊎◌, ◌==◌, ◌||◌, ◌&&◌, ℕ, Bool, true, false, max, nat_lt, List, [], ◌∷◌, Option, Some, None, length, filter, not}
 use Rattle.std.specs.List.{list_any}
 use Rattle.atomic_table.specs.Table.{Me, rest}

@@ -25,15 +25,20 @@ learnt more v = record v { known = record v.known { bodies = v.known.bodies ++ m
 abbrev pub added : Bodied → LaneView → LaneView
 added x v = record v { hand = x.pack ∷ v.hand; known = record v.known { bodies = v.known.bodies ++ x ∷ [] } }
 
--- the lane has a reference with this body; or it has the DB lock and no work, and the body is that of a current
+-- the lane has the DB lock and no work, and the body is that of a current
+abbrev pub UnderLock : Bodied → LaneView → Type 0
+UnderLock x v =
+    (d : Desk) × (f : ℕ) × (v.locks.db ≡ Some d) × (d.work ≡ idle) × (f < 16) × (x.pack ≡ current_of d.books f)
+    × BodyFits d.books x
+
+-- or it has a reference with this body
 abbrev pub CanAdd : Bodied → LaneView → Type 0
-CanAdd x v = ((0 < holds x.pack v) × In x v.known.bodies)
-    ⊎ ((d : Desk) × (f : ℕ) × (v.locks.db ≡ Some d) × (d.work ≡ idle) × (f < 16) × (x.pack ≡ current_of d.books f)
-    × BodyFits d.books x)
+CanAdd x v = ((0 < holds x.pack v) × In x v.known.bodies) ⊎ UnderLock x v
 
 -- ---- kind 10, reference sub
 
--- the work, once a reference of the old pack p of a sweep is dropped: one that the sweep took, or its last, which ends it
+-- The work, once a reference of the old pack p of a sweep is dropped: one that the sweep took, or its last, which ends
+-- it.
 abbrev pub lowered : ℕ → Work → Work
 lowered p (sweeping f old m mid zero) = cond (old == p) idle (sweeping f old m mid zero)
 lowered p (sweeping f old m mid (suc t)) = cond (old == p) (sweeping f old m mid t) (sweeping f old m mid (suc t))
@@ -86,6 +91,12 @@ opened f x b u d v = record v {
   known = record v.known { task = u; bodies = v.known.bodies ++ x ∷ [] };
 }
 
+-- a memtable is new, in a cell whose lock the lane has
+abbrev pub NewInCell : Books → Books → LaneView → Type 0
+NewInCell a b v =
+    (c : ℕ) × (m : Memtable) × (found : Option Cell) × IsNewMemtable a b c m
+    × (v.locks.cell ≡ Some (record { number = c; found = found }))
+
 -- The lane has the DB lock and no work. In the books that it goes on with, the pack is new as the family's current; a
 -- memtable that is new with it is in a cell whose lock the lane has.
 pub record MayOpen (v : LaneView) (f : ℕ) (x : Bodied) (b : Books) (u : Task) : Type 0 where
@@ -96,9 +107,7 @@ pub record MayOpen (v : LaneView) (f : ℕ) (x : Bodied) (b : Books) (u : Task) 
   pub near : f < 16
   pub turns : Turns v.known.lane desk.books v.known.task b u []
   pub made : Opens desk.books b f x.pack
-  pub memtable : (b.memtables ≡ desk.books.memtables)
-      ⊎ ((c : ℕ) × (m : Memtable) × (found : Option Cell) × IsNewMemtable desk.books b c m
-      × (v.locks.cell ≡ Some (record { number = c; found = found })))
+  pub memtable : (b.memtables ≡ desk.books.memtables) ⊎ NewInCell desk.books b v
   pub body : BodyFits b x
   pub room : length v.hand < most_hand
 

@@ -43,7 +43,8 @@ abbrev pub is_retired_in : Option Family → Bool
 is_retired_in None = false
 is_retired_in (Some x) = is_retired x
 
--- The same with other books, in which the family has no current: it is retired in them, or the lane ends it at the close.
+-- The same with other books, in which the family has no current: it is retired in them, or the lane ends it at the
+-- close.
 abbrev pub ended_current : ℕ → Books → Task → Desk → LaneView → LaneView
 ended_current f b u d v = record v {
   seat = record v.seat { ends = cond (is_retired_in (slice_get b.families f)) v.seat.ends (f ∷ v.seat.ends) };

@@ -96,7 +96,8 @@ is_idle (Some d) = elim d.work as (λ _. Bool) [
       false
 ]
 
--- The load of r, by a lane that has the DB lock and no work and the pack r in hand, makes of an empty slot a borrow of r.
+-- The load of r, by a lane that has the DB lock and no work and the pack r in hand, makes of an empty slot a borrow of
+-- r.
 abbrev pub lends : ℕ → ℕ → LaneView → Bool
 lends f r v = cond (is_free (slot_of v f)) (cond (is_idle v.locks.db)
     (cond (nat_le 256 r) (nat_le 1 (total (same r) v.hand)) false) false) false
