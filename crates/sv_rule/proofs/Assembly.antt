@@ -111,8 +111,10 @@ module _ {S D C B : Type 0} (books : S → Books) (disk : D → Disk) (cell : C 
             dir = rest.dir;
             disks = rest.disks;
             slots = λ k l. subst (λ (z : ℕ × Box (Stored S D C B)). SlotOk z.0 z.1)
-                (λ c. (sym (z_stays (slot_word k) (λ z. omega arith)) c,
-                sym (others (slot_home k) (λ z. omega arith)) c))
+                (λ c. (
+                  sym (z_stays (slot_word k) (λ z. omega arith)) c,
+                  sym (others (slot_home k) (λ z. omega arith)) c,
+                ))
                 (kept.home.slots k l);
           };
           ledger = record { places = places; hands = hands_step s 0 x homes id v w me kept.ledger.hands few };

@@ -57,7 +57,7 @@ module _ {S D C B : Type 0} (books : S → Books) (disk : D → Disk) (cell : C 
       let no_due : (k : ℕ) → dues k v ≡ 0 = λ k. ap (λ (o : Option Desk). due_count k
       (option_map (λ (d : Desk). d.due) o)) (no_db v no_lock) in
       let no_fill : (k : ℕ) → fills k v ≡ 0 = λ k. ap (λ (o : Option Desk). fill_count k
-          (option_map (λ (d : Desk). d.due) o) v.locks.cell) (no_db v no_lock) in
+      (option_map (λ (d : Desk). d.due) o) v.locks.cell) (no_db v no_lock) in
       let resting = y.3 in
       let accounts = kept.in_hand.accounts id v me alive in
       let f = accounts.fits in (

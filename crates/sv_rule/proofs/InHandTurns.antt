@@ -1,5 +1,5 @@
 -- Work in hand, where the books in hand change.
-use Rattle.std.proofs.Common.{Bool, List, None, Option, Some, [], ap, arith, cond, false, inl, inr, ne_eqb, refl, set, slice_get, subst, suc, sym, true, zero, ℕ, ⊎_elim, ◌++◌, ◌+◌, ◌<◌, ◌==◌, ◌∙◌, ◌∷◌, ◌≡◌, ◌≢◌, ◌≤◌, ◌⊎◌}
+use Rattle.std.proofs.Common.{Bool, List, None, Option, Some, [], ap, arith, cond, false, refl, set, slice_get, subst, sym, true, ℕ, ⊎_elim, ◌++◌, ◌+◌, ◌<◌, ◌==◌, ◌∙◌, ◌≡◌, ◌≢◌, ◌≤◌, ◌⊎◌}
 use Rattle.std.proofs.lemmas.List.Elements.{filter-append}
 use mathlib.Core.Logic.{dite}
 use mathlib.Core.Option.{some}
@@ -10,25 +10,23 @@ use Rattle.sv_model.specs.Books.{Books}
 use Rattle.sv_model.specs.Journal.{by_lane}
 use Rattle.sv_model.specs.Lawful.{Lawful}
 use Rattle.sv_model.specs.Lists.{Every, In, same, times, total}
-use Rattle.sv_model.specs.Numbers.{IsRegistered, having, is_grabbed, is_live, is_pending, registered}
+use Rattle.sv_model.specs.Numbers.{IsRegistered, having, is_grabbed, is_live, is_pending}
 use Rattle.sv_model.specs.Registers.{entry}
-use Rattle.sv_model.specs.Summaries.{is_gone}
 use Rattle.sv_model.specs.declared.records.FileStatus.TheVariants.{Gone}
 use Rattle.sv_model.specs.declared.records.Snapshot.{Snapshot}
 use Rattle.sv_model.specs.declared.writes.Write.{Write}
-use Rattle.sv_model.proofs.FlatFirsts.{marks}
-use Rattle.sv_model.proofs.Lists.{same_is, times_in, total_at}
+use Rattle.sv_model.proofs.Lists.{times_in, total_at}
 use Rattle.sv_rule.specs.Fits.{IsGoneSnapshot}
 use Rattle.sv_rule.specs.InHand.{Accounts, CurrentsStand, IsQuiet, IsThere, WorkHeld}
 use Rattle.sv_rule.specs.Sums.{Each, at}
-use Rattle.sv_rule.specs.Tasks.{endings, faults, gone_count, gone_snapshot, grabs, handle, handles_of, has_db, has_job, has_output, holds_of, job_count, lanes, marks_of, output_count, own_lane, removals}
+use Rattle.sv_rule.specs.Tasks.{endings, faults, gone_count, gone_snapshot, grabs, handle, handles_of, has_db, has_job, has_output, holds_of, lanes, own_lane, removals}
 use Rattle.sv_rule.specs.Turns.{IsFresh, IsOutput, OwnTurns}
 use Rattle.sv_rule.specs.UnderWay.{excepts}
-use Rattle.sv_rule.specs.Views.{Disk, Joined, Known, LaneView, Mark, Output, Start, Task, Work}
+use Rattle.sv_rule.specs.Views.{Disk, Joined, Known, LaneView, Output, Start, Task, Work}
 use Rattle.sv_rule.proofs.Basics.{append_none, each_other, each_set, get_none, true_not}
 use Rattle.sv_rule.proofs.FitLaws.{fits-after}
 use Rattle.sv_rule.proofs.LaterBooks.{in-more}
-use Rattle.sv_rule.proofs.Statuses.{gone-registered, registered-has, registered-stays, statuses}
+use Rattle.sv_rule.proofs.Statuses.{gone-registered}
 use Rattle.sv_rule.proofs.Stepping.{view_le, view_same}
 use Rattle.sv_rule.proofs.Sums.{cond-else, cond-is, same_one, terms_le, total-set, total_none}
 use Rattle.sv_rule.proofs.OwnTurnLaws.{job_most, no_grabs, other_lanes, push_or, there-stays}

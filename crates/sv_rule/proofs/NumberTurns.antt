@@ -1,27 +1,25 @@
 -- The number words, as the books in hand change.
 -- ---- SuperVersions and currents stand
-use Rattle.std.proofs.Common.{Bool, List, None, Option, Some, [], ap, arith, inl, inr, length, length-append, refl, slice_get, subst, sym, ℕ, ⊎_elim, ◌/◌, ◌<◌, ◌∙◌, ◌∷◌, ◌≡◌, ◌≢◌, ◌≤◌, ◌⊎◌}
+use Rattle.std.proofs.Common.{List, None, Option, Some, [], ap, arith, inl, inr, length, length-append, refl, slice_get, subst, sym, ℕ, ⊎_elim, ◌/◌, ◌∙◌, ◌∷◌, ◌≡◌, ◌≢◌, ◌≤◌, ◌⊎◌}
 use mathlib.Core.Logic.{dite}
-use native.Mathlib.Decide.{dec_le, ℕ_discrete}
+use native.Mathlib.Decide.{ℕ_discrete}
 use Rattle.sv_model.specs.After.{After}
 use Rattle.sv_model.specs.Books.{Books}
 use Rattle.sv_model.specs.Lawful.{Lawful}
 use Rattle.sv_model.specs.Lists.{same}
-use Rattle.sv_model.specs.Places.{taken}
 use Rattle.sv_model.specs.Registers.{EachEntry, entry}
 use Rattle.sv_model.specs.declared.records.SuperVersion.{SuperVersion}
 use Rattle.sv_model.specs.declared.records.Top.{Top}
 use Rattle.sv_model.proofs.Registers.{entry-new, entry_push}
-use Rattle.sv_rule.specs.Fresh.{Past}
-use Rattle.sv_rule.specs.Numbers.{IsBased, NumberOk, Numbers}
+use Rattle.sv_rule.specs.Numbers.{IsBased, Numbers}
 use Rattle.sv_rule.specs.Sums.{at}
 use Rattle.sv_rule.specs.Supers.{IsPackOf, IsSerialOf, LiveAt, current_in, current_of, current_serial, end_at, pack, pack_at, pack_of_serial, writes}
 use Rattle.sv_rule.specs.Table.{number}
 use Rattle.sv_rule.specs.Turns.{EndsCurrent, EndsSuper, Opens, Stands}
 use Rattle.sv_rule.specs.UnderWay.{excepts}
-use Rattle.sv_rule.specs.Views.{Work, begun, idle, opens, sweeping}
+use Rattle.sv_rule.specs.Views.{Work, begun, idle, opens}
 use Rattle.sv_rule.proofs.Basics.{some_is, true_not}
-use Rattle.sv_rule.proofs.CurrentLaws.{current_big, current_ends, current_is, current_marks, get_lt, one_pack, pack_big, pack_le, serial_le, some-at}
+use Rattle.sv_rule.proofs.CurrentLaws.{current_big, current_ends, get_lt, pack_le, some-at}
 use Rattle.sv_rule.proofs.LaterBooks.{based-after, based-live, end-same, pack-after}
 use Rattle.sv_rule.proofs.Sums.{same-else, same-self}
 

@@ -13,7 +13,6 @@ use Rattle.sv_model.specs.Lawful.{Lawful}
 use Rattle.sv_model.specs.Lists.{same, times, total}
 use Rattle.sv_model.specs.Registers.{entry}
 use Rattle.sv_model.specs.TableTextFields.{start}
-use Rattle.sv_model.specs.declared.records.Memtable.{Memtable}
 use Rattle.sv_model.specs.declared.records.Top.{Top}
 use Rattle.sv_model.proofs.Basics.{none_some}
 use Rattle.sv_model.proofs.Lists.{same_is}

@@ -1,39 +1,30 @@
 -- What a step on a reference word leaves.
-use Rattle.std.proofs.Common.{Bool, List, None, Option, Some, [], ap, arith, cond, eq-eqb, false, length, ne_eqb, option_map, refl, subst, suc, sym, true, zero, ℕ, ⊎_elim, ◌%◌, ◌+◌, ◌-◌, ◌/◌, ◌<◌, ◌==◌, ◌^◌, ◌∙◌, ◌∷◌, ◌≡◌, ◌≢◌, ◌≤◌}
+use Rattle.std.proofs.Common.{Bool, List, Option, Some, ap, arith, cond, eq-eqb, false, length, ne_eqb, refl, subst, suc, sym, true, zero, ℕ, ◌<◌, ◌==◌, ◌≡◌, ◌≢◌, ◌≤◌}
 use mathlib.Core.Logic.{dite}
 use mathlib.Core.Option.{some}
 use native.Mathlib.Decide.{ℕ_discrete}
 use lib.ListN.{get_elem?}
-use Rattle.atomic_table.specs.Table.{Allows, Me, State, keeps}
+use Rattle.atomic_table.specs.Table.{State}
 use Rattle.sv_model.specs.Books.{Books}
 use Rattle.sv_model.specs.Cells.{Cell}
-use Rattle.sv_model.specs.Lists.{In, same, total}
+use Rattle.sv_model.specs.Lists.{same, total}
 use Rattle.sv_rule.specs.Blanks.{no_locks}
-use Rattle.sv_rule.specs.Fits.{BodyFits}
 use Rattle.sv_rule.specs.Home.{IsState, Lock}
 use Rattle.sv_rule.specs.InHand.{Accounts}
 use Rattle.sv_rule.specs.Ledger.{Places, most_hand}
 use Rattle.sv_rule.specs.Numbers.{Numbers}
-use Rattle.sv_rule.specs.ReferencePlays.{Added, CanAdd, Dropped, MayDropAt, added, dropped, has_taken, has_taken_at, lowered, lowers, was_last}
+use Rattle.sv_rule.specs.ReferencePlays.{has_taken, lowered}
 use Rattle.sv_rule.specs.Rule.{Kept}
-use Rattle.sv_rule.specs.Sums.{without}
-use Rattle.sv_rule.specs.Supers.{current_of, pack}
 use Rattle.sv_rule.specs.Sweep.{Rights}
-use Rattle.sv_rule.specs.Table.{holders, holds, home, number, number_word, owers, owes, reference, reference_word, slot, slot_word, word}
+use Rattle.sv_rule.specs.Table.{holders, home, number, number_word, owers, reference, reference_word, slot, slot_word, word}
 use Rattle.sv_rule.specs.Tasks.{has_db}
 use Rattle.sv_rule.specs.UnderWay.{Apart, Stock, excepts}
-use Rattle.sv_rule.specs.Views.{Bodied, Body, Desk, Disk, LaneView, SlotView, Work, begun, idle, opens, sweeping}
+use Rattle.sv_rule.specs.Views.{Body, Desk, Disk, LaneView, SlotView, Work, begun, idle, opens, sweeping}
 use Rattle.sv_rule.specs.declared.parts.Stored.{Stored}
 use Rattle.sv_rule.proofs.Assembly.{Desks, kept-by-word, low_id}
-use Rattle.sv_rule.proofs.Basics.{by_desk, every_cons, every_none, true_not}
-use Rattle.sv_rule.proofs.DbLock.{db-desk, db-same, owners-desk, owners-same}
-use Rattle.sv_rule.proofs.Drops.{WorkOk, lowers_ok}
-use Rattle.sv_rule.proofs.FreshTurns.{stock-more}
-use Rattle.sv_rule.proofs.Places.{held_place, places_at}
-use Rattle.sv_rule.proofs.Resting.{accounts-bodies, hand_view, rest-same}
+use Rattle.sv_rule.proofs.Resting.{hand_view, rest-same}
 use Rattle.sv_rule.proofs.RoundTurns.{rounds-work, rounds_of}
-use Rattle.sv_rule.proofs.Stepping.{apart_same, fresh_same, fresh_stay, fresh_view, holders_by_view, holders_few, next, numbers_same, rights_stay, rounds_view, seat_view, views_move, word_else, word_here}
-use Rattle.sv_rule.proofs.Sums.{below-term_le, length-without, same-else, same-self, term_le, total-without}
+use Rattle.sv_rule.proofs.Stepping.{apart_same, fresh_same, fresh_stay, fresh_view, next, numbers_same, rights_stay, rounds_view, seat_view, word_else}
 
 pub lowered_rounds : (p : ℕ) (work : Work) → rounds_of (lowered p work) ≡ rounds_of work
 lowered_rounds p idle = refl

@@ -7,26 +7,21 @@ use lib.ListN.{get_elem?}
 use Rattle.sv_model.specs.After.{After}
 use Rattle.sv_model.specs.Books.{Books}
 use Rattle.sv_model.specs.Lawful.{Lawful}
-use Rattle.sv_model.specs.Lists.{Every, same, total}
+use Rattle.sv_model.specs.Lists.{Every, total}
 use Rattle.sv_model.specs.declared.records.Top.{Top}
-use Rattle.sv_model.proofs.AfterLaws.{after-itself}
-use Rattle.sv_rule.specs.Fits.{Together}
 use Rattle.sv_rule.specs.Numbers.{Numbers}
 use Rattle.sv_rule.specs.Rounds.{Loaded, Rounds}
 use Rattle.sv_rule.specs.Sums.{below}
-use Rattle.sv_rule.specs.Supers.{IsSerialOf, current_of, has_current}
-use Rattle.sv_rule.specs.Table.{number}
+use Rattle.sv_rule.specs.Supers.{current_of, has_current}
 use Rattle.sv_rule.specs.Tasks.{all_adds}
 use Rattle.sv_rule.specs.Turns.{Opens}
-use Rattle.sv_rule.specs.UnderWay.{begins, excepts, sets, sets_on}
-use Rattle.sv_rule.specs.Views.{Joined, LaneView, Load, Work, begun, idle, opens, sweeping}
+use Rattle.sv_rule.specs.Views.{Joined, LaneView, Load, Work, begun, sweeping}
 use Rattle.sv_rule.proofs.Basics.{each_set, get-past}
-use Rattle.sv_rule.proofs.CurrentLaws.{HasTop, current_big, current_marks, get_lt, has-top, has_current_le, has_current_one, one_family, pack_le, pack_serial, serial_le, some-at}
-use Rattle.sv_rule.proofs.LaterBooks.{pack-after}
-use Rattle.sv_rule.proofs.NumberTurns.{opens-back, opens-long, opens-others}
+use Rattle.sv_rule.proofs.CurrentLaws.{HasTop, current_big, get_lt, has-top, has_current_le, has_current_one, pack_le, some-at}
+use Rattle.sv_rule.proofs.NumberTurns.{opens-long, opens-others}
 use Rattle.sv_rule.proofs.NumberWorks.{new-is-last}
 use Rattle.sv_rule.proofs.Stepping.{rounds_view}
-use Rattle.sv_rule.proofs.Sums.{below-put, below-same, same-self, total-set}
+use Rattle.sv_rule.proofs.Sums.{below-put, below-same, total-set}
 
 -- ---- the bound
 

@@ -1,5 +1,5 @@
 -- The round word and what lanes loaded, from step to step.
-use Rattle.std.proofs.Common.{Bool, List, None, Option, Some, ap, arith, cond, inl, inr, length, refl, set, slice_get, subst, sym, ℕ, ⊎_elim, ◌+◌, ◌/◌, ◌<◌, ◌==◌, ◌∙◌, ◌≡◌, ◌≢◌, ◌≤◌, ◌⊎◌}
+use Rattle.std.proofs.Common.{List, ap, arith, inl, inr, length, refl, set, subst, sym, ℕ, ⊎_elim, ◌+◌, ◌/◌, ◌<◌, ◌∙◌, ◌≡◌, ◌≢◌, ◌≤◌}
 use mathlib.Core.Logic.{dite}
 use mathlib.Core.Option.{some}
 use native.Mathlib.Decide.{dec_le, ℕ_discrete}
@@ -8,7 +8,6 @@ use Rattle.sv_model.specs.After.{After}
 use Rattle.sv_model.specs.Books.{Books}
 use Rattle.sv_model.specs.Lawful.{Lawful}
 use Rattle.sv_model.specs.Lists.{Every, same, total}
-use Rattle.sv_model.specs.declared.records.Top.{Top}
 use Rattle.sv_model.proofs.AfterLaws.{after-itself}
 use Rattle.sv_rule.specs.Fits.{Together}
 use Rattle.sv_rule.specs.Numbers.{Numbers}
@@ -20,13 +19,12 @@ use Rattle.sv_rule.specs.Tasks.{all_adds}
 use Rattle.sv_rule.specs.Turns.{Opens}
 use Rattle.sv_rule.specs.UnderWay.{begins, excepts, sets, sets_on}
 use Rattle.sv_rule.specs.Views.{Joined, LaneView, Load, Work, begun, idle, opens, sweeping}
-use Rattle.sv_rule.proofs.Basics.{each_set, get-past}
-use Rattle.sv_rule.proofs.CurrentLaws.{HasTop, current_big, current_marks, get_lt, has-top, has_current_le, has_current_one, one_family, pack_le, pack_serial, serial_le, some-at}
+use Rattle.sv_rule.proofs.Basics.{each_set}
+use Rattle.sv_rule.proofs.CurrentLaws.{current_marks, one_family, pack_le, pack_serial, serial_le}
 use Rattle.sv_rule.proofs.LaterBooks.{pack-after}
-use Rattle.sv_rule.proofs.NumberTurns.{opens-back, opens-long, opens-others}
-use Rattle.sv_rule.proofs.NumberWorks.{new-is-last}
+use Rattle.sv_rule.proofs.NumberTurns.{opens-back}
 use Rattle.sv_rule.proofs.Stepping.{rounds_view}
-use Rattle.sv_rule.proofs.Sums.{below-put, below-same, same-self, total-set}
+use Rattle.sv_rule.proofs.Sums.{same-self, total-set}
 
 sets_except : (f : ℕ) (w : Work) → 0 < sets_on f w → 0 < excepts f w
 sets_except f idle h = absurd (omega arith)

@@ -27,7 +27,6 @@ use Rattle.sv_rule.specs.Tasks.{is_spent, joined_count, lanes, own_lane}
 use Rattle.sv_rule.specs.Views.{Body, Disk, Joined, LaneView, Start, Work}
 use Rattle.sv_rule.specs.declared.parts.Stored.{Stored}
 use Rattle.sv_rule.proofs.Basics.{each_other, each_set, every_map, every_none, get-past, some_is, true_not, views-else, views-here}
-use Rattle.sv_rule.proofs.Cells.{db_none}
 use Rattle.sv_rule.proofs.LaterBooks.{continues-at}
 use Rattle.sv_rule.proofs.SeatRest.{kept-by-seats}
 use Rattle.sv_rule.proofs.SeatWork.{Moves, work-seats}

@@ -1,5 +1,5 @@
 -- The table at the opening keeps the rule.
-use Rattle.std.proofs.Common.{List, None, Option, Some, [], ap, arith, false, inl, inr, length, map, not, refl, replicate, subst, suc, sym, true, zero, ℕ, ◌<◌, ◌∙◌, ◌∷◌, ◌≡◌, ◌≢◌, ◌≤◌}
+use Rattle.std.proofs.Common.{List, None, Option, Some, [], ap, arith, false, inl, inr, length, not, refl, subst, suc, sym, true, zero, ℕ, ◌<◌, ◌∙◌, ◌∷◌, ◌≡◌, ◌≢◌, ◌≤◌}
 use Rattle.std.proofs.lemmas.List.{length-map}
 use mathlib.Core.Option.{some}
 use lib.ListN.{get_elem?}
@@ -8,10 +8,8 @@ use Rattle.atomic_table.specs.Table.{State, opening}
 use Rattle.sv_model.specs.Books.{Books}
 use Rattle.sv_model.specs.Cells.{Cell}
 use Rattle.sv_model.specs.Journal.{rows_of}
-use Rattle.sv_model.specs.Lawful.{Lawful}
-use Rattle.sv_model.specs.Lists.{Every, bit, same}
-use Rattle.sv_model.specs.Openings.{IsOpening, first_memtable, opening_books}
-use Rattle.sv_model.specs.Registers.{entry}
+use Rattle.sv_model.specs.Lists.{Every, same}
+use Rattle.sv_model.specs.Openings.{first_memtable}
 use Rattle.sv_model.specs.declared.records.Memtable.{Memtable}
 use Rattle.sv_rule.specs.Begins.{FirstBooks, FirstCell, FirstSlots, FirstWords}
 use Rattle.sv_rule.specs.Blanks.{first_view, no_locks}
@@ -21,11 +19,10 @@ use Rattle.sv_rule.specs.Ledger.{Places, most_hand}
 use Rattle.sv_rule.specs.Numbers.{NumberOk, Numbers}
 use Rattle.sv_rule.specs.Rounds.{Loaded}
 use Rattle.sv_rule.specs.Rule.{Kept}
-use Rattle.sv_rule.specs.Sums.{at, below}
+use Rattle.sv_rule.specs.Sums.{below}
 use Rattle.sv_rule.specs.Supers.{current_of, has_current, pack}
 use Rattle.sv_rule.specs.Sweep.{lent}
 use Rattle.sv_rule.specs.Table.{cached_at, cell_word, holders, home, number, number_word, owers, reference, reference_word, slot, slot_at, slot_home, slot_word, spot, word}
-use Rattle.sv_rule.specs.Tasks.{handle}
 use Rattle.sv_rule.specs.UnderWay.{Stock}
 use Rattle.sv_rule.specs.Views.{Body, CellHeld, Desk, Disk, LaneView, away, idle}
 use Rattle.sv_rule.specs.declared.parts.Stored.{Stored}
@@ -36,7 +33,6 @@ use Rattle.sv_rule.proofs.FirstBooks.{based-first, bears_none, below-one, below-
 use Rattle.sv_rule.proofs.FirstWork.{files-first, work-first}
 use Rattle.sv_rule.proofs.SeatRest.{fresh_none}
 use Rattle.sv_rule.proofs.SlotPuts.{no_ref}
-use Rattle.sv_rule.proofs.Stepping.{next}
 use Rattle.sv_rule.proofs.Sums.{same-else, same_le, same_one}
 
 no_some : {A : Type 0} (d : A) → None ≡ Some d → ⊥
