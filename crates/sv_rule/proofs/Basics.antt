@@ -1,5 +1,5 @@
 -- Small laws on options, lists and views.
-use Rattle.std.proofs.Common.{List, None, Option, Some, [], ap, arith, false, inl, inr, length, refl, set, slice_get, subst, suc, sym, true, zero, ℕ, ⊎_elim, ◌++◌, ◌∙◌, ◌∷◌, ◌≡◌, ◌≢◌, ◌≤◌, ◌⊎◌}
+use Rattle.std.proofs.Common.{Bool, List, None, Option, Some, [], ap, arith, false, inl, inr, length, refl, set, slice_get, subst, suc, sym, true, zero, ℕ, ⊎_elim, ◌++◌, ◌+◌, ◌<◌, ◌∙◌, ◌∷◌, ◌≡◌, ◌≢◌, ◌≤◌, ◌⊎◌}
 use mathlib.Core.Option as maybe
 use lib.ListN.{get_elem?}
 use Rattle.atomic_table.proofs.Lists.{at_set}
@@ -8,6 +8,11 @@ use Rattle.sv_model.specs.Registers.{entry}
 use Rattle.sv_rule.specs.Sums.{Each}
 use Rattle.sv_rule.specs.Tasks.{has_db, some_count}
 use Rattle.sv_rule.specs.Views.{Desk, LaneView}
+use mathlib.Core.Option.{some}
+use Rattle.sv_model.specs.declared.sv_refs.SvRef.{SvRef}
+use Rattle.sv_rule.specs.Table.{Box}
+use Rattle.sv_rule.specs.declared.parts.Stored.{Stored}
+use Rattle.sv_rule.specs.declared.parts.Stored.TheVariants as is
 
 pub some_is : {A : Type 0} {x y : A} → Some x ≡ Some y → x ≡ y
 some_is {A} {x} {y} e = cc
@@ -117,3 +122,11 @@ views-else (z ∷ l) zero zero q n = absurd (n refl)
 views-else (z ∷ l) zero (suc k) q n = refl
 views-else (z ∷ l) (suc i) zero q n = refl
 views-else (z ∷ l) (suc i) (suc k) q n = views-else l i k q (λ e. n (ap suc e))
+
+pub by_bool : {A : Type 0} (b : Bool) → (b ≡ true → A) → (b ≡ false → A) → A
+by_bool true f g = f refl
+by_bool false f g = g refl
+
+pub no_ref : {S D C B : Type 0} (y : SvRef B) → ◌≡◌ {A = Box (Stored S D C B)} (some (some is.Nothing))
+    (some (some (is.Cached y))) → ⊥
+no_ref y e = cc

@@ -25,22 +25,7 @@ use Rattle.sv_rule.proofs.CellReads.{active-end, family_le}
 use Rattle.sv_rule.proofs.LaterBooks.{get-map}
 use Rattle.sv_rule.proofs.RefLaws.{body-big, body-live, names-live}
 use Rattle.sv_rule.proofs.Sums.{term_le, total_none}
-
--- whoever is to fill a cell has its lock
-pub fills_le : (c : ℕ) (v : LaneView) → fills c v ≤ has_cell c v
-fills_le c v = by (due_of v) v.locks.cell
-  where
-    by : (d : Option (List ℕ)) (h : Option CellHeld) → fill_count c d h ≤ cell_count c h
-    by None None = omega arith
-    by None (Some h) = omega arith
-    by (Some d) None = omega arith
-    by (Some d) (Some h) = omega arith
-
-pub dues_none : (c : ℕ) (v : LaneView) → has_db v ≡ 0 → dues c v ≡ 0
-dues_none c v z = ap (λ (o : Option Desk). due_count c (option_map (λ (d : Desk). d.due) o)) (no_db v z)
-
-pub dues_is : (c : ℕ) (v : LaneView) (d : Desk) → v.locks.db ≡ Some d → dues c v ≡ times c d.due
-dues_is c v d e = ap (λ (o : Option Desk). due_count c (option_map (λ (k : Desk). k.due) o)) e
+use Rattle.sv_rule.proofs.LockCounts.{dues_is, dues_none}
 
 -- where one view has all of one sum, and another sum needs that, it has all of the other
 total_only : {A : Type 0} (g h : A → ℕ) (l : List A) (j : ℕ) (v : A) → get_elem? l j ≡ some v

@@ -25,11 +25,10 @@ use Rattle.sv_rule.specs.Views.{Body, Desk, Disk, LaneView, Task}
 use Rattle.sv_rule.specs.declared.parts.Stored.{Stored}
 use Rattle.sv_rule.specs.declared.parts.Stored.TheVariants as is
 use Rattle.sv_rule.proofs.Basics.{append_none, has_one, true_not}
-use Rattle.sv_rule.proofs.CellFinds.{dues_is, fills_le}
+use Rattle.sv_rule.proofs.LockCounts.{cell_at, cell_one, dues_is, fills_le, no_held}
 use Rattle.sv_rule.proofs.CellGoes.{Cells, by_cell}
 use Rattle.sv_rule.proofs.CellLaws.{says-more, says-write}
 use Rattle.sv_rule.proofs.CellReads.{eq-is, raised_le}
-use Rattle.sv_rule.proofs.Cells.{cell_at, cell_one, no_held}
 use Rattle.sv_rule.proofs.DbLock.{db-desk, owners-desk}
 use Rattle.sv_rule.proofs.FitLaws.{fits-after}
 use Rattle.sv_rule.proofs.InHandTurns.{ended-turn, removed-turn}

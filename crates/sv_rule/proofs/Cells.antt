@@ -19,7 +19,8 @@ use Rattle.sv_rule.specs.Views.{Body, CellHeld, Desk, Disk, LaneView}
 use Rattle.sv_rule.specs.declared.parts.Stored.{Stored}
 use Rattle.sv_rule.specs.declared.parts.Stored.TheVariants as is
 use Rattle.sv_rule.proofs.Basics.{some_is}
-use Rattle.sv_rule.proofs.CellFinds.{fills_le, finds-body, finds-books}
+use Rattle.sv_rule.proofs.CellFinds.{finds-body, finds-books}
+use Rattle.sv_rule.proofs.LockCounts.{cell_at, cell_one, fills_le, held_is, no_held}
 use Rattle.sv_rule.proofs.CellGoes.{Cells, by_cell}
 use Rattle.sv_rule.proofs.CellReads.{cut_le, raised_le, reads-fit}
 use Rattle.sv_rule.proofs.DbLock.{db-same, owners-same}
@@ -28,23 +29,6 @@ use Rattle.sv_rule.proofs.RefLaws.{ref-live}
 use Rattle.sv_rule.proofs.Resting.{says-step}
 use Rattle.sv_rule.proofs.Sums.{same-else, same_one, term_le, terms_le}
 use Rattle.sv_rule.proofs.TurnsSame.{stands-same, turns-same}
-
-pub held_is : (x y : CellHeld) → Some x ≡ Some y → x ≡ y
-held_is x y e = some_is e
-
-pub no_held : (h : CellHeld) → None ≡ Some h → ⊥
-no_held h e = cc
-
-pub db_none : (v : LaneView) → v.locks.db ≡ None → has_db v ≡ 0
-db_none v e = ap (λ (o : Option Desk). some_count o) e
-
-pub cell_one : (c : ℕ) (v : LaneView) (x : Option Cell) → v.locks.cell ≡ Some (record { number = c; found = x })
-    → has_cell c v ≡ 1
-cell_one c v x e = ap (cell_count c) e ∙ same_one c c refl
-
--- the cell that a lane has is the lock that it has
-pub cell_at : (c : ℕ) (v : LaneView) (h : CellHeld) → v.locks.cell ≡ Some h → has_cell c v ≡ same c h.number
-cell_at c v h e = ap (cell_count c) e
 
 terms_less : {A : Type 0} (g h : A → ℕ) (l : List A) → ((x : A) → g x ≤ h x) → total g l ≤ total h l
 terms_less g h [] f = omega arith

@@ -9,11 +9,7 @@ use Rattle.sv_rule.specs.SlotPlays.{checked, is_free, is_idle, lends}
 use Rattle.sv_rule.specs.Sweep.{Right, lent, pack_of}
 use Rattle.sv_rule.specs.Table.{names, slot_of}
 use Rattle.sv_rule.specs.Views.{Desk, LaneView, SlotView, Work, away, begun, borrow, held, idle, opens, sweeping}
-use Rattle.sv_rule.proofs.Basics.{by_desk}
-
-pub by_bool : {A : Type 0} (b : Bool) → (b ≡ true → A) → (b ≡ false → A) → A
-by_bool true f g = f refl
-by_bool false f g = g refl
+use Rattle.sv_rule.proofs.Basics.{by_bool, by_desk}
 
 -- a slot view that is lent as before, with the same pack
 pub right_view : {a m w n c : ℕ} {x y : SlotView} → lent y ≡ lent x → pack_of y ≡ pack_of x → Right a m w n c x

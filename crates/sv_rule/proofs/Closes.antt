@@ -17,7 +17,7 @@ use Rattle.sv_rule.specs.Tasks.{cell_count, has_cell, has_db, has_dir, joined_co
 use Rattle.sv_rule.specs.Views.{Body, Disk, LaneView, Locks, idle}
 use Rattle.sv_rule.specs.declared.parts.Stored.{Stored}
 use Rattle.sv_rule.specs.declared.parts.Stored.TheVariants as is
-use Rattle.sv_rule.proofs.Checks.{by_bool}
+use Rattle.sv_rule.proofs.Basics.{by_bool}
 use Rattle.sv_rule.proofs.SeatJoins.{alive_one, count_all, is_alive}
 use Rattle.sv_rule.proofs.Sums.{term_le, terms_le, total-zero}
 

@@ -25,7 +25,7 @@ use Rattle.sv_rule.proofs.FitLaws.{body-after}
 use Rattle.sv_rule.proofs.LockLaws.{alone, lock-gave, lock-none, lock-took}
 use Rattle.sv_rule.proofs.Told.{told}
 use Rattle.sv_rule.proofs.TurnRest.{mine-turns}
-use Rattle.sv_rule.proofs.Settles.{fills_none}
+use Rattle.sv_rule.proofs.LockCounts.{fills_none}
 use Rattle.sv_rule.proofs.TurnsSame.{stands-same, turns-same}
 
 -- the state that lies in front, or st

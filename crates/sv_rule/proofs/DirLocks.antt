@@ -36,7 +36,6 @@ use Rattle.sv_rule.proofs.InHandTurns.{work-turns}
 use Rattle.sv_rule.proofs.LockGoes.{kept-by-other-lock}
 use Rattle.sv_rule.proofs.LockLaws.{alone, lock-gave, lock-took}
 use Rattle.sv_rule.proofs.RefLaws.{ref-live}
-use Rattle.sv_rule.proofs.ReferenceSteps.{R}
 use Rattle.sv_rule.proofs.Resting.{held-by, says-step}
 use Rattle.sv_rule.proofs.Stepping.{next, rounds_view, view_same, word_else, word_here}
 use Rattle.sv_rule.proofs.Sums.{total-set}

@@ -16,7 +16,7 @@ use Rattle.sv_rule.specs.Supers.{LiveAt, current_of, current_serial, pack, pack_
 use Rattle.sv_rule.proofs.Basics.{some_is}
 use Rattle.sv_rule.proofs.CurrentLaws.{get_lt, some-at}
 use Rattle.sv_rule.proofs.SeatSplits.{none_by}
-use Rattle.sv_rule.proofs.Sums.{below_le}
+use Rattle.sv_rule.proofs.Sums.{below_le, by_less}
 
 -- ---- sums
 
@@ -35,11 +35,6 @@ below-one f j (suc n) l h = dite (ℕ_discrete j n)
       below-one f j n (omega arith) (λ k y z. h k (omega arith) z),
       h n (omega arith) (λ z. ne (sym z)),
     ))
-
-pub by_less : {A : Type 0} (x y : ℕ) → (x < y → A) → (y ≤ x → A) → A
-by_less x zero f g = g (omega arith)
-by_less zero (suc y) f g = f (omega arith)
-by_less (suc x) (suc y) f g = by_less x y (λ l. f (omega arith)) (λ l. g (omega arith))
 
 -- where nothing comes from n on
 pub below-upto : (f : ℕ → ℕ) (n m : ℕ) → ((k : ℕ) → f k ≤ 1) → ((k : ℕ) → k < m → n ≤ k → f k ≡ 0) → below f m ≤ n

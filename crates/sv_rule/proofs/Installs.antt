@@ -18,9 +18,7 @@ use Rattle.sv_rule.specs.UnderWay.{excepts, fit, middle}
 use Rattle.sv_rule.specs.Views.{Body, Disk, LaneView, Work, begun, idle, sweeping}
 use Rattle.sv_rule.specs.declared.parts.Stored.{Stored}
 use Rattle.sv_rule.proofs.CurrentLaws.{current_is, current_marks, current_newest, one_pack, pack_le, pack_serial}
-use Rattle.sv_rule.proofs.FirstBooks.{by_less}
-use Rattle.sv_rule.proofs.Sums.{same-self}
-use Rattle.sv_rule.proofs.Sweeps.{sweeps}
+use Rattle.sv_rule.proofs.Sums.{by_less, same-self}
 
 -- The number word that an install finds is the current that the family had before.
 pub old_number : (a b : Books) (f p r : ℕ) → Lawful a → Lawful b → Opens a b f p → NumberOk b (begun f) f r

@@ -69,3 +69,4 @@ pub mod Installs
 pub mod Composing
 pub mod SmallWorld
 pub mod SmallParts
+pub mod LockCounts

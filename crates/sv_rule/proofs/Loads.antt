@@ -19,8 +19,8 @@ use Rattle.sv_rule.specs.Table.{names, number, number_word, slot_of, word}
 use Rattle.sv_rule.specs.UnderWay.{Stock, excepts, fit}
 use Rattle.sv_rule.specs.Views.{Body, Disk, Joined, LaneView, Load, SlotView, Work, away, borrow, idle}
 use Rattle.sv_rule.specs.declared.parts.Stored.{Stored}
-use Rattle.sv_rule.proofs.Basics.{by_desk, every_cons}
-use Rattle.sv_rule.proofs.Checks.{by_bool, floor-checked, lends_is, lent-checked, names-checked, pack-checked, right_view}
+use Rattle.sv_rule.proofs.Basics.{by_bool, by_desk, every_cons}
+use Rattle.sv_rule.proofs.Checks.{floor-checked, lends_is, lent-checked, names-checked, pack-checked, right_view}
 use Rattle.sv_rule.proofs.LoadSteps.{L, kept-by-load}
 use Rattle.sv_rule.proofs.References.{adds}
 use Rattle.sv_rule.proofs.RoundTurns.{loaded-now, loaded-work, rounds-set}

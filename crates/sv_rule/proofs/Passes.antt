@@ -16,7 +16,7 @@ use Rattle.sv_rule.specs.Views.{Body, Desk, Disk, LaneView, Work, sweeping}
 use Rattle.sv_rule.specs.declared.parts.Stored.{Stored}
 use Rattle.sv_rule.specs.declared.parts.Stored.TheVariants as is
 use Rattle.sv_rule.proofs.RoundTurns.{rounds_of}
-use Rattle.sv_rule.proofs.SlotPuts.{no_ref}
+use Rattle.sv_rule.proofs.Basics.{no_ref}
 use Rattle.sv_rule.proofs.Sums.{marked, same-self}
 use Rattle.sv_rule.proofs.SweepSteps.{beyond_case, beyond_excepts, fit-pass, in_row, kept-by-sweep, other_middle, right_passed, swept_view}
 use Rattle.sv_rule.proofs.Sweeps.{work_is}

@@ -19,8 +19,7 @@ use Rattle.sv_rule.specs.Tasks.{cell_count, has_db, is_spent, job_count, joined_
 use Rattle.sv_rule.specs.Views.{Body, Disk, Joined, LaneView, Mark, SlotView, away}
 use Rattle.sv_rule.specs.declared.parts.Stored.{Stored}
 use Rattle.sv_rule.proofs.Basics.{each_set, every_append, every_cons, every_none, true_not, views-else}
-use Rattle.sv_rule.proofs.CellFinds.{dues_none, fills_le}
-use Rattle.sv_rule.proofs.Cells.{db_none}
+use Rattle.sv_rule.proofs.LockCounts.{db_none, dues_none, fills_le}
 use Rattle.sv_rule.proofs.SeatRest.{kept-by-seats}
 use Rattle.sv_rule.proofs.SeatWork.{Moves, work-seats, zero-cond}
 use Rattle.sv_rule.proofs.Sums.{at-is, at-set_else, at-set_same, at_lt, same-else, term_le, terms_le, total-append, total-set}

@@ -36,6 +36,7 @@ use Rattle.sv_rule.proofs.RoundRises.{has-current-same}
 use Rattle.sv_rule.proofs.Stepping.{apart_same, fresh_stay, holders_by_view, numbers_same, rights_stay, views_move, word_here}
 use Rattle.sv_rule.proofs.Sums.{same-else, same-self, term_le, total-one, total-without}
 use Rattle.sv_rule.proofs.TurnRest.{journal-stands, mine-turns, rest-turns, says-closes}
+use Rattle.sv_rule.proofs.LockCounts.{fills_none}
 
 live_there : {supers : List SuperVersion} {h o : ℕ → ℕ} {w : ℕ} (t k : ℕ) → 0 < t → k < 256 → Vacant supers h o k w
     ⊎ Counted supers h o k w → 0 < o (pack t k) → LiveAt supers t k
@@ -44,13 +45,6 @@ live_there {supers} {h} {o} {w} t k pos near place owed = ⊎_elim
     (λ (c : Counted supers h o k w). dite (ℕ_discrete t c.serial)
     (λ e. subst (λ (z : ℕ). LiveAt supers z k) (sym e) c.live)
     (λ n. absurd (omega (arith, c.others_unowed t pos n)))) place
-
-pub fills_none : (v : LaneView) → v.locks.cell ≡ None → (k : ℕ) → fills k v ≡ 0
-fills_none v e k = ap (λ h. fill_count k (due_of v) h) e ∙ by (due_of v)
-  where
-    by : (o : Option (List ℕ)) → fill_count k o None ≡ 0
-    by None = refl
-    by (Some d) = refl
 
 pub fills_no_db : (v : LaneView) → has_db v ≡ 0 → (k : ℕ) → fills k v ≡ 0
 fills_no_db v e k = by v.locks.db v.locks.cell e

@@ -22,15 +22,12 @@ use Rattle.sv_rule.specs.declared.parts.Stored.{Stored}
 use Rattle.sv_rule.specs.declared.parts.Stored.TheVariants as is
 use Rattle.sv_rule.proofs.OwnSlots.{kept_by_own, lane_lt, out_of, own_fresh, own_right, reach, reach_len, stock_reached}
 use Rattle.sv_rule.proofs.Sums.{at-put_else, at-put_same, marked}
+use Rattle.sv_rule.proofs.Basics.{no_ref}
 
 -- a slot has one value
 same_ref : {S D C B : Type 0} (x y : SvRef B) → ◌≡◌ {A = Box (Stored S D C B)} (some (some (is.Cached x)))
     (some (some (is.Cached y))) → x ≡ y
 same_ref x y e = cc
-
-pub no_ref : {S D C B : Type 0} (y : SvRef B) → ◌≡◌ {A = Box (Stored S D C B)} (some (some is.Nothing))
-    (some (some (is.Cached y))) → ⊥
-no_ref y e = cc
 
 module _ {S D C B : Type 0} (books : S → Books) (disk : D → Disk) (cell : C → Option Cell) (body : B → Body) where
   puts_own : (n id : ℕ) (v : LaneView) (more : List (ℕ × Stored S D C B)) (f p floor : ℕ) (x : SvRef B) → f < 16

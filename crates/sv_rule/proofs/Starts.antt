@@ -27,13 +27,12 @@ use Rattle.sv_rule.specs.UnderWay.{Stock}
 use Rattle.sv_rule.specs.Views.{Body, CellHeld, Desk, Disk, LaneView, away, idle}
 use Rattle.sv_rule.specs.declared.parts.Stored.{Stored}
 use Rattle.sv_rule.specs.declared.parts.Stored.TheVariants as is
-use Rattle.sv_rule.proofs.Basics.{each_one, every_none}
+use Rattle.sv_rule.proofs.Basics.{each_one, every_none, no_ref}
 use Rattle.sv_rule.proofs.CurrentLaws.{current_ends, current_is, current_marks, current_newest, get_lt, has_current_le, has_current_none, some-at}
-use Rattle.sv_rule.proofs.FirstBooks.{based-first, bears_none, below-one, below-upto, below-zero, by_less, current_at_first, current_none, nth_memtable, super_at, super_only}
+use Rattle.sv_rule.proofs.FirstBooks.{based-first, bears_none, below-one, below-upto, below-zero, current_at_first, current_none, nth_memtable, super_at, super_only}
 use Rattle.sv_rule.proofs.FirstWork.{files-first, work-first}
 use Rattle.sv_rule.proofs.SeatRest.{fresh_none}
-use Rattle.sv_rule.proofs.SlotPuts.{no_ref}
-use Rattle.sv_rule.proofs.Sums.{same-else, same_le, same_one}
+use Rattle.sv_rule.proofs.Sums.{by_less, same-else, same_le, same_one}
 
 no_some : {A : Type 0} (d : A) → None ≡ Some d → ⊥
 no_some d e = cc

@@ -219,3 +219,8 @@ cond-else p q n e = ap (λ b. cond b n 0) (ne_eqb p q e)
 -- a word that is no pack names none
 pub marked : (q w : ℕ) → 256 ≤ q → w < 256 → same q w ≡ 0
 marked q w big small = same-else q w (λ e. omega arith)
+
+pub by_less : {A : Type 0} (x y : ℕ) → (x < y → A) → (y ≤ x → A) → A
+by_less x zero f g = g (omega arith)
+by_less zero (suc y) f g = f (omega arith)
+by_less (suc x) (suc y) f g = by_less x y (λ l. f (omega arith)) (λ l. g (omega arith))

@@ -36,7 +36,6 @@ use Rattle.sv_rule.proofs.CellLaws.{says-ended, says-new}
 use Rattle.sv_rule.proofs.FileTurns.{files-turn, told-map}
 use Rattle.sv_rule.proofs.FitLaws.{body-after, fits-after}
 use Rattle.sv_rule.proofs.InHandTurns.{ended-turn, removed-turn, work-turns}
-use Rattle.sv_rule.proofs.LoadSteps.{L}
 use Rattle.sv_rule.proofs.LockLaws.{lock-else}
 use Rattle.sv_rule.proofs.Resting.{Rest, held-by, says-books, says-step}
 use Rattle.sv_rule.proofs.Stepping.{next, view_le, view_same, word_else}
