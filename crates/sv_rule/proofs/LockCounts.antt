@@ -1,12 +1,10 @@
 -- What a lane's locks count for.
-use Rattle.std.proofs.Common.{List, None, Option, Some, ap, arith, option_map, refl, ℕ, ◌%◌, ◌++◌, ◌+◌, ◌/◌, ◌<◌, ◌∙◌, ◌∷◌, ◌≡◌, ◌≤◌, ◌⊎◌}
+use Rattle.std.proofs.Common.{List, None, Option, Some, ap, arith, option_map, refl, ℕ, ◌∙◌, ◌≡◌, ◌≤◌}
 use Rattle.sv_rule.specs.Tasks.{cell_count, due_count, due_of, dues, fill_count, fills, has_cell, has_db, some_count}
 use Rattle.sv_rule.specs.Views.{CellHeld, Desk, LaneView}
 use Rattle.sv_model.specs.Lists.{same, times}
 use Rattle.sv_rule.proofs.Basics.{no_db, some_is}
 use Rattle.sv_model.specs.Cells.{Cell}
-use Rattle.sv_rule.specs.Table.{number}
-use Rattle.sv_rule.specs.declared.parts.Stored.TheVariants as is
 use Rattle.sv_rule.proofs.Sums.{same_one}
 
 pub fills_none : (v : LaneView) → v.locks.cell ≡ None → (k : ℕ) → fills k v ≡ 0
