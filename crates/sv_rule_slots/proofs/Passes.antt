@@ -80,3 +80,11 @@ module _ {S D C B : Type 0} (books : S → Books) (disk : D → Disk) (cell : C 
             (beyond_case (λ z. Stock d.books z v.hand) v.seat.lanes f old l taken (λ _ _. tt) ws.1),
         refl,
       )
+
+  pub passes_at : (n id : ℕ) (m : Me (Stored S D C B) LaneView) (more : List (ℕ × Stored S D C B)) (d : Desk)
+      (f old l taken : ℕ) → f < 16 → l < 32 → m.0.seat.spent ≡ false → m.0.locks.db ≡ Some d
+      → d.work ≡ sweeping f old l true taken → m.1 ≡ (slot_home (spot l f), is.Nothing) ∷ more
+      → Allows (Kept books disk cell body) n id m (slot_word (spot l f)) (λ _. 0) (Passed d f old l taken m)
+  passes_at n id m more d f old l taken near low alive has mid e = subst (λ (c : List (ℕ × Stored S D C B)). Allows
+      (Kept books disk cell body) n id (m.0, c) (slot_word (spot l f)) (λ _. 0) (Passed d f old l taken (m.0, c)))
+      (sym e) (passes n id m.0 more d f old l taken near low alive has mid)
