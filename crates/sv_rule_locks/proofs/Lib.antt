@@ -1,0 +1,12 @@
+pub mod DbGoes
+pub mod Told
+pub mod DbLocks
+pub mod LockGoes
+pub mod FileNames
+pub mod DirFiles
+pub mod DirLocks
+pub mod CellReads
+pub mod CellFinds
+pub mod CellGoes
+pub mod Cells
+pub mod CellWrites

@@ -1,0 +1,2 @@
+//! Takings and givings of locks keep the rule of the table.
+#![tactic(auto)]

@@ -1,0 +1,9 @@
+pub mod SeatWork
+pub mod SeatRest
+pub mod SeatSplits
+pub mod SeatJoins
+pub mod FirstBooks
+pub mod FirstWork
+pub mod Starts
+pub mod NewBooks
+pub mod Closes

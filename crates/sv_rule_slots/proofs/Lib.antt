@@ -1,0 +1,17 @@
+pub mod Drops
+pub mod References
+pub mod ReferenceSteps
+pub mod OwnSlots
+pub mod SlotUses
+pub mod SlotPuts
+pub mod Checks
+pub mod LoadSteps
+pub mod Loads
+pub mod Frames
+pub mod SweepSteps
+pub mod Sweeps
+pub mod Passes
+pub mod Opens
+pub mod Settles
+pub mod RoundAdds
+pub mod NumberSwaps
