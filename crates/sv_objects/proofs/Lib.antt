@@ -1,1 +1,2 @@
+mod CleanLaws
 mod Undoing

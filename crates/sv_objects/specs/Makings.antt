@@ -7,6 +7,8 @@ use Rattle.sv_model.specs.declared.records.MemtableList.{MemtableList}
 use Rattle.sv_model.specs.declared.records.Version.{Version}
 use Rattle.sv_model.specs.declared.records.FileMeta.{FileMeta}
 use Rattle.sv_model.specs.declared.settings.Options.{Options}
+use Rattle.sv_model.specs.Named.{memtable_live, super_live}
+use Rattle.sv_model.specs.Places.{IsLeastFree, cell_of, place_of}
 use Rattle.sv_model.specs.Registers.{entry}
 use Rattle.sv_laws.specs.Installs.{HasRoom, HasCell, live_super}
 use Rattle.sv_objects.specs.declared.bodies.Body.{Body}
@@ -31,6 +33,7 @@ pub record IsBody (d : Descriptor) (cell : ℕ) (held : Held) (body : Body) : Ty
 pub record RefMade (old : List SuperVersion) (d : Descriptor) (cell : ℕ) (held : Held) (new : List SuperVersion) (pack : ℕ) (body : Body) : Type 0 where
   pub place : ℕ
   pub room : HasRoom old place
+  pub least : IsLeastFree super_live place_of old place
   pub made : new ≡ old ++ live_super d place ∷ []
   pub pack_is : pack ≡ (length old + 1) * 256 + place
   pub body_is : IsBody d cell held body
@@ -43,6 +46,7 @@ switched o d base = record d { active = length o.memtables + 1; list = length o.
 pub record SwitchMade (old : Objects) (d : Descriptor) (base : ℕ) (held : Held) (new : Objects) (pack : ℕ) (body : Body) : Type 0 where
   pub cell : ℕ
   pub cell_room : HasCell old.memtables cell
+  pub cell_least : IsLeastFree memtable_live cell_of old.memtables cell
   pub ref : RefMade old.supers (switched old d base) cell held new.supers pack body
   pub memtables : new.memtables ≡ old.memtables ++ record { family = d.family; first = base; cell = cell; live = true } ∷ []
   pub lists : (l : MemtableList) → entry old.lists d.list ≡ Some l → new.lists ≡ old.lists ++ record { members = l.members ++ d.active ∷ []; live = true } ∷ []
@@ -87,8 +91,10 @@ first_of o family options = record {
 pub record FamilyMade (old : Objects) (family : ℕ) (options : Options) (new : Objects) (pack : ℕ) (body : Body) : Type 0 where
   pub cell : ℕ
   pub cell_room : HasCell old.memtables cell
+  pub cell_least : IsLeastFree memtable_live cell_of old.memtables cell
   pub place : ℕ
   pub room : HasRoom old.supers place
+  pub least : IsLeastFree super_live place_of old.supers place
   pub supers : new.supers ≡ old.supers ++ live_super (first_of old family options) place ∷ []
   pub memtables : new.memtables ≡ old.memtables ++ record { family = family; first = 0; cell = cell; live = true } ∷ []
   pub lists : new.lists ≡ old.lists ++ record { members = []; live = true } ∷ []

@@ -3,7 +3,7 @@
 #![tactic(auto)]
 
 mod bodies;
-
+mod cleanup;
 mod making;
 mod objects;
 

@@ -1,4 +1,4 @@
-use Rattle.std.proofs.Common.{◌≡◌, ◌+◌, ℕ, [], refl, sym, ap, ◌∙◌, subst, length}
+use Rattle.std.proofs.Common.{◌≡◌, ℕ, refl, ap, ◌∙◌, subst}
 use Rattle.sv_model.specs.declared.records.Descriptor.{Descriptor}
 use Rattle.sv_model.specs.Named.{list_live, version_live}
 use Rattle.sv_imm.specs.Changes.{live_list}
@@ -28,8 +28,10 @@ returns-in-Ok-make_ref-clause-made c =
     record {
       cell = m.cell;
       cell_room = cell-made o.memtables m.cell c.in_ok-active.ensures.refused m.within m.least;
+      cell_least = m.least;
       place = ref.place;
       room = ref.room;
+      least = ref.least;
       supers = ref.made;
       memtables = m.made;
       lists = c.in-Ok.ensures.ok.made;

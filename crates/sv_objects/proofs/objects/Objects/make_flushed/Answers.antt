@@ -1,4 +1,4 @@
-use Rattle.std.proofs.Common.{◌≡◌, ◌+◌, ℕ, refl, sym, ap, ◌∙◌, subst, length}
+use Rattle.std.proofs.Common.{ℕ, refl, subst}
 use Rattle.sv_model.specs.Named.{list_live, version_live}
 use Rattle.sv_imm.specs.Changes.{live_list}
 use Rattle.sv_version.specs.Changes.{live_version}

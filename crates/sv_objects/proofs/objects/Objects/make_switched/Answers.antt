@@ -1,4 +1,4 @@
-use Rattle.std.proofs.Common.{◌≡◌, ◌+◌, ℕ, refl, sym, ap, ◌∙◌, subst, length}
+use Rattle.std.proofs.Common.{ℕ, refl, subst}
 use Rattle.sv_model.specs.Named.{list_live}
 use Rattle.sv_imm.specs.Changes.{live_list}
 use Rattle.sv_laws.proofs.Rooms.{cell-made}
@@ -26,6 +26,7 @@ returns-in-Ok-make_ref-clause-made c =
     record {
       cell = m.cell;
       cell_room = cell-made o.memtables m.cell c.in_ok-active.ensures.refused m.within m.least;
+      cell_least = m.least;
       ref = subst (λ (z : ℕ × (ℕ × ℕ)). RefMade o.supers (record d { active = z.0; list = z.1.0; base = c.args.base }) z.1.1 c.args.held c.make_ref.new.supers c.in-Ok-make_ref.made.pack c.in-Ok-make_ref.made.body.value) (λ i. (m.id_is i, (list i, cell i))) c.in-Ok-make_ref.ensures.made;
       memtables = m.made;
       lists = λ l e. (c.in-Ok.ensures.ok l e).made;
