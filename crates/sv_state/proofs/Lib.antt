@@ -1,0 +1,6 @@
+mod Calls
+mod Closings
+mod FileCalls
+mod Firsts
+mod OtherCalls
+mod Stays

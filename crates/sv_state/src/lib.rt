@@ -1,0 +1,15 @@
+//! The state: every register of the store together, lawful after every call.
+#![tactic(auto)]
+
+mod closing;
+mod families;
+mod installs;
+mod jobs;
+mod openings;
+mod readers;
+mod snapshots;
+mod state;
+
+pub use installs::Install;
+pub use state::State;
+pub use sv_objects::Body;
