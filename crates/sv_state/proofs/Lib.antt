@@ -1,6 +1,11 @@
 mod Calls
+mod Captures
 mod Closings
+mod Creations
 mod FileCalls
 mod Firsts
+mod OptionSets
 mod OtherCalls
+mod References
 mod Stays
+mod Switches

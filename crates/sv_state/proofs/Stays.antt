@@ -20,10 +20,10 @@ use Rattle.sv_objects.specs.Shown.{shown}
 use Rattle.sv_laws.proofs.Items.{in-suc}
 use Rattle.sv_state.specs.Refs.{AreFrozenAt, AreKept, IsBodyOf, IsKept, IsRefOf, IsState}
 
-cell-stays : (M N : List Memtable) → GoesOn KeepsMemtable M N → (m cell : ℕ) → IsCellOf M m cell → IsCellOf N m cell
+pub cell-stays : (M N : List Memtable) → GoesOn KeepsMemtable M N → (m cell : ℕ) → IsCellOf M m cell → IsCellOf N m cell
 cell-stays M N goes m cell h = let t = goes m h.it h.at in record { it = t.0; at = t.1; is = t.2.cell ∙ h.is }
 
-frozen-stay : (J K : List Write) (M N : List Memtable) → GoesOn KeepsMemtable M N → (ms : List ℕ) (xs : List (ℕ × Cell))
+pub frozen-stay : (J K : List Write) (M N : List Memtable) → GoesOn KeepsMemtable M N → (ms : List ℕ) (xs : List (ℕ × Cell))
     → ((m : ℕ) → In m ms → borne_by m K ≡ borne_by m J) → AreFrozenAt J M ms xs → AreFrozenAt K N ms xs
 frozen-stay J K M N goes [] [] same h = tt
 frozen-stay J K M N goes [] (x ∷ xs) same h = h

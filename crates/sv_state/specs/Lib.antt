@@ -1,3 +1,5 @@
+pub mod Capturing
+pub mod Changing
 pub mod Currents
 pub mod Follows
 pub mod Gone
@@ -5,3 +7,4 @@ pub mod Refs
 pub mod Seen
 pub mod Taken
 pub mod Views
+pub mod Writing

@@ -1,6 +1,8 @@
 //! The state: every register of the store together, lawful after every call.
 #![tactic(auto)]
 
+mod capturing;
+mod changing;
 mod closing;
 mod families;
 mod installs;
@@ -9,6 +11,7 @@ mod openings;
 mod readers;
 mod snapshots;
 mod state;
+mod writing;
 
 pub use installs::Install;
 pub use state::State;
