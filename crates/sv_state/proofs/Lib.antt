@@ -4,6 +4,8 @@ mod Closings
 mod Creations
 mod FileCalls
 mod Firsts
+mod Finishes
+mod Fronts
 mod OptionSets
 mod OtherCalls
 mod References

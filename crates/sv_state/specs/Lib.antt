@@ -1,6 +1,7 @@
 pub mod Capturing
 pub mod Changing
 pub mod Currents
+pub mod Finishing
 pub mod Follows
 pub mod Gone
 pub mod Refs

@@ -49,7 +49,7 @@ impl State {
 }
 
 // The file of this number, over this range.
-fn file_over(number: FileNumber, from: u64, to: u64, last: bool, cuts: &Cuts) -> FileMeta
+pub(crate) fn file_over(number: FileNumber, from: u64, to: u64, last: bool, cuts: &Cuts) -> FileMeta
     ensures { result ≡ record { number = number; from = from; to = to; bottom = record { last = last; cuts = cuts.now } } }
 {
     FileMeta {

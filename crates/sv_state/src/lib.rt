@@ -5,6 +5,7 @@ mod capturing;
 mod changing;
 mod closing;
 mod families;
+mod finishing;
 mod installs;
 mod jobs;
 mod openings;
