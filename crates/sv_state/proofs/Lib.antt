@@ -8,6 +8,7 @@ mod Finishes
 mod Fronts
 mod OptionSets
 mod OtherCalls
+mod Plannings
 mod References
 mod Stays
 mod Switches

@@ -4,6 +4,7 @@ pub mod Currents
 pub mod Finishing
 pub mod Follows
 pub mod Gone
+pub mod Planning
 pub mod Refs
 pub mod Seen
 pub mod Taken

@@ -9,11 +9,13 @@ mod finishing;
 mod installs;
 mod jobs;
 mod openings;
+mod planning;
 mod readers;
 mod snapshots;
 mod state;
 mod writing;
 
 pub use installs::Install;
+pub use planning::{FlushPlan, Plan};
 pub use state::State;
 pub use sv_objects::Body;
