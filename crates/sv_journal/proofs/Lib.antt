@@ -1,0 +1,3 @@
+mod JournalLaws
+mod LiveLaws
+mod CutReads

@@ -1,0 +1,10 @@
+//! The journal: the accepted writes, how many of them are each family's, and the snapshots, each of which is a place in
+//! it.
+#![tactic(auto)]
+
+mod journal;
+mod live;
+mod snapshots;
+
+pub use journal::{FAMILIES, Journal, MAX_WRITES};
+pub use snapshots::{MAX_SNAPSHOTS, MAX_SNAPSHOTS_LIVE};

@@ -1,0 +1,2 @@
+mod CleanLaws
+mod Undoing

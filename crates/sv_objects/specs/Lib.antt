@@ -1,0 +1,3 @@
+pub mod Cleanups
+pub mod Makings
+pub mod Shown

@@ -1,0 +1,14 @@
+mod Calls
+mod Captures
+mod Closings
+mod Creations
+mod FileCalls
+mod Firsts
+mod Finishes
+mod Fronts
+mod OptionSets
+mod OtherCalls
+mod Plannings
+mod References
+mod Stays
+mod Switches

@@ -1,0 +1,34 @@
+use Rattle.std.proofs.Common.{◌≡◌, ℕ, None, refl, sym, ap, ◌∙◌, subst, set}
+use Rattle.sv_model.specs.declared.records.Top.{Top}
+use Rattle.sv_model.specs.Books.{Books}
+use Rattle.sv_state.specs.Currents.{CanEnd}
+use Rattle.sv_state.specs.Follows.{Follows}
+use Rattle.sv_state.specs.Refs.{IsState}
+use Rattle.sv_state.specs.Seen.{StateSeen}
+use Rattle.sv_state.specs.Views.{books_of}
+use Rattle.sv_state.proofs.Calls.{follows}
+use Rattle.sv_state.proofs.Closings.{end-changes, end-law, sets-state}
+use Rattle.sv_state.proofs.state.State.end_current.Goals as goal
+
+pub invariant_of-self : goal.invariant_of-self
+invariant_of-self c =
+    let i = c.self.inside in
+    let a : Books = books_of i in
+    let k = c.self.invariant.sound in
+    let can : CanEnd a c.args.family = subst (λ (z : StateSeen). CanEnd z.books c.args.family) (sym c.self.view_is) c.requires in
+    let T = c.take_current-old.new.tops.items in
+    let q = c.take_current-old.ensures.tops can.current.top can.current.at in
+    let b : Books = record a { tops = T } in
+    subst (IsState b) (sym c.take_current-old.ensures.held)
+    (sets-state a b i.held.items c.self.invariant (end-law a b k c.args.family (end-changes a k c.args.family can T q)) c.args.family can.current.top (record can.current.top { current = None }) None can.current.at q tt)
+
+pub returns-clause-follows : goal.returns-clause-follows
+returns-clause-follows c =
+    let i = c.self.inside in
+    let a : Books = books_of i in
+    let k = c.self.invariant.sound in
+    let can : CanEnd a c.args.family = subst (λ (z : StateSeen). CanEnd z.books c.args.family) (sym c.self.view_is) c.requires in
+    let T = c.take_current-old.new.tops.items in
+    let q = c.take_current-old.ensures.tops can.current.top can.current.at in
+    let b : Books = record a { tops = T } in
+    subst (λ (z : StateSeen). Follows z.books b) c.self.view_is (follows a b (end-law a b k c.args.family (end-changes a k c.args.family can T q)))

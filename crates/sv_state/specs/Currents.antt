@@ -1,0 +1,24 @@
+-- The current of a family.
+use Rattle.std.specs.Prelude.{◌≡◌, ℕ, false, List, Some, slice_get}
+use Rattle.sv_model.specs.declared.records.Family.{Family}
+use Rattle.sv_model.specs.declared.records.Top.{Top}
+use Rattle.sv_model.specs.Books.{Books}
+use Rattle.sv_model.specs.Families.{IsOwn}
+
+-- the family was made, and has a current
+pub record HasCurrentAt (b : Books) (family : ℕ) : Type 0 where
+  pub top : Top
+  pub at : slice_get b.tops family ≡ Some top
+  pub serial : ℕ
+  pub is : top.current ≡ Some serial
+
+-- each family that the lane means by the name has a current
+abbrev pub OwnHaveCurrents : Books → ℕ → List ℕ → Type 0
+OwnHaveCurrents b lane name = (f : ℕ) (x : Family) → slice_get b.families f ≡ Some x → IsOwn lane name x → HasCurrentAt b f
+
+-- the family has a current and is not dropped
+pub record CanEnd (b : Books) (family : ℕ) : Type 0 where
+  pub it : Family
+  pub at : slice_get b.families family ≡ Some it
+  pub stands : it.dropped ≡ false
+  pub current : HasCurrentAt b family
