@@ -3,8 +3,10 @@ use Rattle.std.proofs.Common.{◌≡◌, ◌<◌, ◌≤◌, ◌+◌, ◌-◌, �
 use Rattle.std.specs.Prelude.{IfOk, Result, Ok, Err, nat_lt, slice_get}
 use Rattle.sv_model.specs.declared.records.Descriptor.{Descriptor}
 use Rattle.sv_model.specs.declared.records.Family.{Family}
+use Rattle.sv_model.specs.declared.records.FileMeta.{FileMeta}
 use Rattle.sv_model.specs.declared.records.Memtable.{Memtable}
 use Rattle.sv_model.specs.declared.records.SuperVersion.{SuperVersion}
+use Rattle.sv_model.specs.declared.records.Version.{Version}
 use Rattle.sv_model.specs.declared.refusals.Refusal.{Refusal}
 use Rattle.sv_model.specs.declared.refusals.Refusal.TheVariants as refusal
 use Rattle.sv_model.specs.declared.settings.Options.{Options}
@@ -16,13 +18,14 @@ use Rattle.sv_model.specs.Registers.{entry}
 use Rattle.sv_model.specs.Steady.{Sound}
 use Rattle.sv_family.specs.Refused.{change_fault}
 use Rattle.sv_laws.specs.Installs.{IsOpen}
+use Rattle.sv_laws.proofs.Items.{some}
 use Rattle.sv_laws.proofs.OpenFamilies.{ends-at, says}
 use Rattle.sv_objects.specs.declared.bodies.Body.{Body}
 use Rattle.sv_objects.specs.Makings.{IsCellOf}
 use Rattle.sv_state.specs.declared.planning.Plan.{Plan}
 use Rattle.sv_state.specs.declared.planning.Plan.TheVariants.{Add, Switch}
 use Rattle.sv_state.specs.Currents.{HasCurrentAt}
-use Rattle.sv_state.specs.Planning.{IsCellIf, IsPlanOf, MeantAt, Planned, active_rows, is_switch_due}
+use Rattle.sv_state.specs.Planning.{compact_fault, IsCellIf, IsPlanOf, MeantAt, Planned, active_rows, is_switch_due}
 use Rattle.sv_state.specs.Refs.{IsBodyOf}
 use Rattle.sv_state.proofs.Finishes.{list-paired}
 use Rattle.sv_state.proofs.OptionSets.{own-it, own-open}
@@ -31,9 +34,24 @@ pub due-exactly : (due : Option Refusal) (e : Refusal) → due ≡ Some e → Is
 due-exactly due refusal.OutOfMemory h = tt
 due-exactly due e h = h
 
+-- only want of memory comes where nothing is due
+pub only-memory : (d due : Option Refusal) (e : Refusal) → d ≡ None → IsDue d e → IsDue due e
+only-memory d due refusal.OutOfMemory h w = tt
+only-memory d due e h w = absurd (none_some (sym h ∙ w))
+  where
+    none_some : {e : Refusal} → None ≡ Some e → ⊥
+    none_some h = absurd (cc)
+
 pub told-so : {T : Type 0} (b : Books) (lane : ℕ) (name : List ℕ) (fault : MeantAt b lane name → Option Refusal) (is : MeantAt b lane name → T → Type 0) (e : Refusal) → change_fault b.families lane name ≡ Some e
     → Planned {T = T} b lane name fault is (Err e)
 told-so b lane name fault is e h = inl (e, h, refl)
+
+-- a compaction is refused
+pub merge-refused : (a b : Books) → a ≡ b → (lane : ℕ) (name : List ℕ) (is : MeantAt b lane name → FileMeta → Type 0) (m : MeantAt a lane name) (e : Refusal) → IsDue (compact_fault a m) e
+    → Planned {T = FileMeta} b lane name (compact_fault b) is (Err e)
+merge-refused a b q lane name is m e h =
+    let t : (n : MeantAt b lane name) × IsDue (compact_fault b n) e = subst (λ (z : Books). (n : MeantAt z lane name) × IsDue (compact_fault z n) e) q (m, h) in
+    inr (t.0, t.1, tt)
 
 module _ (a : Books) (k : Sound a) (lane : ℕ) (name : List ℕ) (f : ℕ) (x : Family) (at : slice_get a.families f ≡ Some x) (own : IsOwn lane name x) (stands : x.dropped ≡ false) (cur : HasCurrentAt a f) where
   abbrev pub meant : MeantAt a lane name
@@ -75,3 +93,6 @@ module _ (a : Books) (k : Sound a) (lane : ℕ) (name : List ℕ) (f : ℕ) (x :
         by : (z : Bool) → IsCellIf a.memtables meant.it.descriptor.active z (cond z (Some body.cell) None)
         by true = w.cell
         by false = tt
+
+    pub files-are : body.files ≡ meant.version.files
+    files-are = w.files_are ∙ ap (λ (v : Version). v.files) (some (sym w.version_at ∙ meant.version_at))

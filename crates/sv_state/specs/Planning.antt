@@ -112,3 +112,18 @@ IsCellIf memtables mem false None = Unit {0}
 pub record IsFlushPlan (b : Books) {lane : ℕ} {name : List ℕ} (m : MeantAt b lane name) (plan : FlushPlan) : Type 0 where
   pub family_is : plan.family ≡ m.family
   pub cell : IsCellIf b.memtables m.it.descriptor.active (nat_lt 0 (active_rows b m)) plan.cell
+
+-- ---- compactions
+
+-- there is no file, or one with nothing below it, each of whose cuts a Live snapshot has
+abbrev pub compacts_nothing : List Write → List Snapshot → ℕ → List FileMeta → Bool
+compacts_nothing journal snapshots family [] = true
+compacts_nothing journal snapshots family (f ∷ []) = f.bottom.last && are_live_cuts journal snapshots family f.bottom.cuts
+compacts_nothing journal snapshots family (f ∷ (g ∷ files)) = false
+
+abbrev pub compact_due : FileRegister → List Write → List Snapshot → ℕ → List FileMeta → Option Refusal
+compact_due files journal snapshots family of =
+    first_due (busy_fault (slice_get files.captured family) ∷ only_if (compacts_nothing journal snapshots family of) (Some refusal.NothingToCompact) ∷ capture_fault files ∷ [])
+
+abbrev pub compact_fault : (b : Books) {lane : ℕ} {name : List ℕ} → MeantAt b lane name → Option Refusal
+compact_fault b m = compact_due b.files b.journal b.snapshots m.family m.version.files

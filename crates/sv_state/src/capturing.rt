@@ -61,7 +61,7 @@ pub(crate) fn file_over(number: FileNumber, from: u64, to: u64, last: bool, cuts
 }
 
 // The last write that the files cover.
-fn reach(files: &[FileMeta]) -> u64
+pub(crate) fn reach(files: &[FileMeta]) -> u64
     ensures { result ≡ reach_of files.now }
 {
     let mut reach = 0;

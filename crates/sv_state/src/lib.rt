@@ -8,6 +8,7 @@ mod families;
 mod finishing;
 mod installs;
 mod jobs;
+mod merging;
 mod openings;
 mod planning;
 mod readers;
