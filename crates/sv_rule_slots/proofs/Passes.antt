@@ -1,5 +1,5 @@
 -- The kind slot home, in a sweep, keeps the rule.
-use Rattle.std.proofs.Common.{List, Option, Some, ap, arith, false, length, length-set, refl, set, sym, true, ℕ, ◌+◌, ◌<◌, ◌∙◌, ◌∷◌, ◌≡◌, ◌≤◌}
+use Rattle.std.proofs.Common.{List, Option, Some, ap, arith, false, length, length-set, refl, set, subst, sym, true, ℕ, ◌+◌, ◌<◌, ◌∙◌, ◌∷◌, ◌≡◌, ◌≤◌}
 use mathlib.Core.Logic.{dite}
 use mathlib.Core.Option.{some}
 use native.Mathlib.Decide.{dec_le, ℕ_discrete}
