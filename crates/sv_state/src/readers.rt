@@ -1,13 +1,16 @@
 // What the state tells.
-ghost use Rattle.std.specs.Prelude.{◌≡◌, ◌<◌, ◌↔◌, ℕ, Some, IsTrue, IfOk, length};
+ghost use Rattle.std.specs.Prelude.{◌≡◌, ◌<◌, ◌↔◌, ℕ, Some, IsTrue, IfOk, length, slice_get};
+ghost use Rattle.std.specs.Option.{option_map};
+ghost use Rattle.sv_model.specs.declared.records.Top.{Top};
 ghost use Rattle.sv_model.specs.Lists.{total};
 ghost use Rattle.sv_model.specs.Refusals.{RefusesExactly};
 ghost use Rattle.sv_family.specs.Refused.{find_fault};
-ghost use Rattle.sv_state.specs.Currents.{HasCurrentAt};
+ghost use Rattle.sv_model.specs.Books.{files_of};
+ghost use Rattle.sv_state.specs.Currents.{HasCurrentAt, StandsAt, kept_of};
 ghost use Rattle.sv_state.specs.Refs.{IsRefOf};
 
 use crate::state::State;
-use sv_model::{FamilyId, FileNumber, SvRef};
+use sv_model::{FamilyId, FileMeta, FileNumber, Name, Options, SvRef, Top, VersionId};
 use sv_objects::Body;
 
 impl State {
@@ -33,10 +36,39 @@ impl State {
         held
     }
 
+    /// The name and the options of the family; none exactly where it was never made or is dropped. Takes no memory.
+    pub fn kept(&self, family: FamilyId) -> Option<(&Name, Options)>
+        ensures { option_map (λ k. (k.0.now, k.1)) result ≡ kept_of (slice_get self.now.books.families family) }
+    {
+        if family.0 as usize >= self.families.len() {
+            return None;
+        }
+        if self.families.is_dropped(family) {
+            return None;
+        }
+        Some((self.families.name(family), self.families.options(family)))
+    }
+
+    /// The files of the last Version of a family that is not dropped, the oldest first. Takes no memory.
+    pub fn last_files(&self, family: FamilyId) -> &[FileMeta]
+        requires { StandsAt self.now.books family }
+        ensures { (at : StandsAt self.now.books family) → result.now ≡ files_of self.now.books.versions at.top.last }
+    {
+        let last = last_of(self.tops.as_slice(), family);
+        self.objects.versions.files(last)
+    }
+
     /// The next file number. Takes no memory.
     pub fn next(&self) -> FileNumber
         ensures { result ≡ self.now.books.files.next }
     {
         self.objects.files.next()
     }
+}
+
+fn last_of(tops: &[Top], family: FamilyId) -> VersionId
+    requires { family < length tops.now }
+    ensures { (t : Top) → slice_get tops.now family ≡ Some t → result ≡ t.last }
+{
+    tops[family.0 as usize].last
 }
