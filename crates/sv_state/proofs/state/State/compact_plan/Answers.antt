@@ -246,4 +246,3 @@ returns-clause-follows c =
     (c.live_cuts-cuts.ensures file (ap (λ (z : FileMeta). z.from) e) (ap (λ (z : FileMeta). z.to) e) (ap (λ (z : FileMeta). z.bottom.cuts) e)) caught.1
     (c.push_reserved.ensures.items ∙ ap (λ (l : List FileMeta). l ++ file ∷ []) c.reserve.ensures.items)) in
     subst (λ (z : StateSeen). Follows z.books new) c.self.view_is (follows a new (merge-law a new k f file h))
-
