@@ -1,9 +1,8 @@
 -- A number is captured or given up.
-use Rattle.std.proofs.Common.{◌≡◌, ◌<◌, ◌≤◌, ◌+◌, ◌==◌, ◌||◌, ◌∷◌, ◌++◌, ℕ, Bool, true, false, List, [], length, Option, Some, None, refl, sym, ap, ◌∙◌, subst, arith}
+use Rattle.std.proofs.Common.{◌≡◌, ◌<◌, ◌≤◌, ◌==◌, ◌||◌, ◌∷◌, ◌++◌, ℕ, Bool, true, false, List, [], length, Some, None, refl, ap, ◌∙◌, subst, arith}
 use Rattle.std.specs.Prelude.{if◌then◌else◌, nat_le, slice_get}
 use Rattle.sv_model.specs.declared.records.FileMeta.{FileMeta}
 use Rattle.sv_model.specs.declared.records.SuperVersion.{SuperVersion}
-use Rattle.sv_model.specs.declared.records.Version.{Version}
 use Rattle.sv_model.specs.declared.records.FileStatus.TheVariants.{Obsolete}
 use Rattle.sv_model.specs.declared.refusals.Refusal.{Refusal}
 use Rattle.sv_model.specs.declared.refusals.Refusal.TheVariants.{RegisterFull}
@@ -11,10 +10,9 @@ use Rattle.sv_model.specs.After.{After}
 use Rattle.sv_model.specs.Books.{Books, FileRegister}
 use Rattle.sv_model.specs.Numbers.{captures}
 use Rattle.sv_model.specs.Ranges.{reach_of}
-use Rattle.sv_model.specs.Registers.{entry}
 use Rattle.sv_model.specs.Steady.{Sound}
 use Rattle.sv_files.specs.Calls.{Settles, capture_fault, captured_for}
-use Rattle.sv_laws.specs.Captures.{IsFileCaptured, IsFlushBegun, IsGivenUp, IsMergePlanned}
+use Rattle.sv_laws.specs.Captures.{IsFileCaptured, IsMergePlanned}
 use Rattle.sv_laws.specs.Changes.{flush_begun, given_up, merge_planned}
 use Rattle.sv_laws.specs.Snapping.{HasLiveCuts}
 use Rattle.sv_laws.specs.Installs.{IsOpen}

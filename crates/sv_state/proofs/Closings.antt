@@ -1,5 +1,5 @@
 -- A family without a current, and a SuperVersion that goes.
-use Rattle.std.proofs.Common.{◌≡◌, ◌≢◌, ◌<◌, ◌+◌, ◌*◌, ◌⊎◌, inl, inr, ⊎_elim, ℕ, suc, Bool, true, false, List, length, length-set, set, Option, Some, None, refl, sym, ap, ◌∙◌, subst, arith}
+use Rattle.std.proofs.Common.{◌≡◌, ◌≢◌, ◌<◌, ◌+◌, ◌*◌, ℕ, suc, Bool, true, false, List, length, length-set, set, Option, Some, None, refl, sym, ap, ◌∙◌, subst, arith}
 use Rattle.std.specs.Prelude.{IsTrue, is_some, option_map, slice_get, ◌↔◌}
 use mathlib.Core.Logic.{dite}
 use native.Mathlib.Decide.{ℕ_discrete}
@@ -11,7 +11,6 @@ use Rattle.sv_model.specs.declared.sv_refs.SvRef.{SvRef}
 use Rattle.sv_model.specs.After.{After}
 use Rattle.sv_model.specs.Books.{Books}
 use Rattle.sv_model.specs.Families.{IsOwn, is_retired}
-use Rattle.sv_model.specs.Named.{HasLast}
 use Rattle.sv_model.specs.Registers.{entry}
 use Rattle.sv_model.specs.Steady.{Sound}
 use Rattle.sv_model.proofs.Registers.{entry-else, entry-same}
@@ -26,7 +25,7 @@ use Rattle.sv_objects.specs.declared.objects.Objects.{Objects}
 use Rattle.sv_objects.specs.Cleanups.{CanClean, with_objects}
 use Rattle.sv_state.specs.Currents.{CanEnd, HasCurrentAt}
 use Rattle.sv_state.specs.Gone.{IsFree, IsLastOr}
-use Rattle.sv_state.specs.Refs.{AreKept, IsKept, IsState}
+use Rattle.sv_state.specs.Refs.{IsKept, IsState}
 use Rattle.sv_state.proofs.Stays.{kept-stays}
 
 -- a call that changes what one family has on top

@@ -1,5 +1,5 @@
 -- Holds, jobs, and what is handed out.
-use Rattle.std.proofs.Common.{◌≡◌, ◌<◌, ◌≤◌, ◌+◌, ◌==◌, ◌||◌, ℕ, suc, ◌⊎◌, inl, inr, ⊎_elim, Bool, true, false, cond, List, [], ◌∷◌, ◌++◌, map, length, Some, Result, Ok, Err, refl, sym, ap, ◌∙◌, subst, arith, length-append}
+use Rattle.std.proofs.Common.{◌≡◌, ◌<◌, ◌≤◌, ◌+◌, ◌==◌, ◌||◌, ℕ, suc, inl, inr, ⊎_elim, Bool, true, false, List, [], ◌∷◌, ◌++◌, map, length, Some, Result, Ok, Err, refl, sym, ap, ◌∙◌, subst, arith}
 use Rattle.std.specs.Prelude.{IfOk, IsFalse, IsTrue, OnErr, if◌then◌else◌}
 use Rattle.std.specs.List.{list_any}
 use Rattle.sv_model.specs.declared.records.RegisteredFile.{RegisteredFile}
@@ -12,15 +12,14 @@ use Rattle.sv_model.specs.Lists.{In, same}
 use Rattle.sv_model.specs.Numbers.{FilesStand, IsMarked, IsReady, MarksOnly, least_captured, registered}
 use Rattle.sv_model.specs.Registers.{entry, GoesOn}
 use Rattle.sv_model.specs.Steady.{Sound}
-use Rattle.sv_model.proofs.AfterLaws.{after-itself, after-through}
+use Rattle.sv_model.proofs.AfterLaws.{after-through}
 use Rattle.sv_model.proofs.NumberLaws.{one_entry}
 use Rattle.sv_model.proofs.Lists.{same_here}
 use Rattle.sv_model.proofs.Registers.{length-change, total_entry}
 use Rattle.sv_files.specs.Calls.{IsFound, IsScanned, IsTaken, MayBeTaken, grab, ungrabbed, with_hold}
 use Rattle.sv_laws.specs.Changes.{grabbed, held}
-use Rattle.sv_laws.specs.Purges.{IsPurgeStep}
 use Rattle.sv_laws.proofs.Grabs.{Steps, all-strayed, below-captured, given-back-steps, goes-map, removed-steps, stray_of, taken-steps}
-use Rattle.sv_laws.proofs.Items.{in-cons, in-none, in-suc, some}
+use Rattle.sv_laws.proofs.Items.{in-suc, some}
 use Rattle.sv_laws.proofs.Kept.{sound-kept}
 use Rattle.sv_state.proofs.Calls.{same-books}
 

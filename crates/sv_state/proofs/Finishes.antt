@@ -1,5 +1,5 @@
 -- A flush and a compaction end.
-use Rattle.std.proofs.Common.{◌≡◌, ◌<◌, ◌≤◌, ◌+◌, ◌*◌, ◌∷◌, ◌++◌, ⊎_elim, ℕ, zero, suc, true, false, Bool, List, [], length, Option, Some, None, refl, sym, ap, ◌∙◌, subst, arith, drop}
+use Rattle.std.proofs.Common.{◌≡◌, ◌≤◌, ◌+◌, ◌∷◌, ◌++◌, ⊎_elim, ℕ, zero, suc, true, false, Bool, List, [], length, Some, refl, sym, ap, ◌∙◌, subst, arith, drop}
 use Rattle.std.specs.declared.sync.Arc.{Arc}
 use Rattle.std.specs.Prelude.{IfOk, Result, Ok, Err, option_map, slice_get, slice_set}
 use Rattle.sv_model.specs.declared.records.Descriptor.{Descriptor}
@@ -17,7 +17,6 @@ use Rattle.sv_model.specs.After.{After}
 use Rattle.sv_model.specs.Books.{Books, FileRegister}
 use Rattle.sv_model.specs.Cells.{Cell}
 use Rattle.sv_model.specs.Described.{MembersJoin}
-use Rattle.sv_model.specs.Lists.{In}
 use Rattle.sv_model.specs.Named.{NamedFile}
 use Rattle.sv_model.specs.Numbers.{IsRegistered, IsSettled}
 use Rattle.sv_model.specs.Ranges.{FilesJoin, reach_of}
@@ -33,8 +32,8 @@ use Rattle.sv_laws.proofs.Apart.{true_false}
 use Rattle.sv_laws.proofs.Items.{some}
 use Rattle.sv_laws.proofs.Kept.{sound-kept}
 use Rattle.sv_laws.proofs.Metas.{one-meta}
-use Rattle.sv_laws.proofs.Needs.{few-live, few-lists, few-versions, reaches, unnamed}
-use Rattle.sv_laws.proofs.OpenFamilies.{list-lives, member, says, version-lives}
+use Rattle.sv_laws.proofs.Needs.{few-live, reaches, unnamed}
+use Rattle.sv_laws.proofs.OpenFamilies.{member, says}
 use Rattle.sv_objects.specs.declared.bodies.Body.{Body}
 use Rattle.sv_objects.specs.declared.objects.Objects.{Objects}
 use Rattle.sv_objects.specs.Cleanups.{with_objects}

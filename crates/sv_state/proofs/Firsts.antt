@@ -1,16 +1,13 @@
 -- The first books, with their reference.
-use Rattle.std.proofs.Common.{◌≡◌, ◌<◌, ◌≤◌, ◌+◌, ◌*◌, ◌∷◌, ◌++◌, ◌⊎◌, inl, inr, ⊎_elim, ℕ, zero, suc, Bool, true, false, List, [], length, Option, Some, None, refl, sym, ap, ◌∙◌, subst, arith}
+use Rattle.std.proofs.Common.{◌≡◌, ◌<◌, ◌≤◌, ◌+◌, ◌*◌, ◌∷◌, ◌++◌, ◌⊎◌, ⊎_elim, ℕ, zero, suc, Bool, true, List, [], length, Some, refl, sym, ap, ◌∙◌, subst, arith}
 use Rattle.std.specs.Prelude.{slice_get}
 use Rattle.sv_model.specs.declared.writes.Write.{Write}
 use Rattle.sv_model.specs.declared.records.FileMeta.{FileMeta}
 use Rattle.sv_model.specs.declared.records.Snapshot.{Snapshot}
-use Rattle.sv_model.specs.declared.records.Memtable.{Memtable}
-use Rattle.sv_model.specs.declared.records.SuperVersion.{SuperVersion}
 use Rattle.sv_model.specs.declared.records.Descriptor.{Descriptor}
 use Rattle.sv_model.specs.declared.records.Family.{Family}
 use Rattle.sv_model.specs.declared.records.Top.{Top}
 use Rattle.sv_model.specs.declared.sv_refs.SvRef.{SvRef}
-use Rattle.sv_model.specs.Books.{Books}
 use Rattle.sv_model.specs.Families.{default_family, first_options}
 use Rattle.sv_model.specs.Named.{memtable_live, super_live}
 use Rattle.sv_model.specs.Openings.{opening_books}
@@ -23,7 +20,6 @@ use Rattle.sv_laws.proofs.Opened.{first-sound}
 use Rattle.sv_objects.specs.declared.bodies.Body.{Body}
 use Rattle.sv_objects.specs.declared.objects.Objects.{Objects}
 use Rattle.sv_objects.specs.Makings.{FamilyMade}
-use Rattle.sv_objects.specs.Shown.{shown}
 use Rattle.sv_state.specs.Refs.{AreFrozenAt, IsBodyOf, IsKept, IsState}
 
 least-zero : {A : Type 0} (live : A → Bool) (place : A → ℕ) (p : ℕ) → IsLeastFree live place [] p → p ≡ 0

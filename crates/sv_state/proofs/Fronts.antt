@@ -1,5 +1,5 @@
 -- The members at the front of a list that begin before a write.
-use Rattle.std.proofs.Common.{◌≡◌, ◌<◌, ◌≤◌, ◌+◌, ◌∷◌, ◌++◌, ⊎_elim, ℕ, zero, suc, List, [], length, Some, refl, sym, ap, ◌∙◌, subst, arith, drop}
+use Rattle.std.proofs.Common.{◌≡◌, ◌<◌, ◌≤◌, ◌+◌, ◌∷◌, ⊎_elim, ℕ, zero, suc, List, [], length, Some, refl, sym, ap, ◌∙◌, subst, arith, drop}
 use Rattle.std.specs.Prelude.{slice_get}
 use Rattle.sv_model.specs.declared.writes.Write.{Write}
 use Rattle.sv_model.specs.declared.records.Memtable.{Memtable}
@@ -8,7 +8,7 @@ use Rattle.sv_model.specs.Described.{MembersJoin}
 use Rattle.sv_model.specs.Lists.{Every, In}
 use Rattle.sv_model.specs.Registers.{entry}
 use Rattle.sv_laws.specs.NewCurrents.{IsParted}
-use Rattle.sv_laws.proofs.Items.{every_none, in-cons, in-none, in-suc, some}
+use Rattle.sv_laws.proofs.Items.{every_none, in-cons, in-none, some}
 use Rattle.sv_state.specs.Finishing.{HasFront}
 
 -- one more member at the front

@@ -1,5 +1,5 @@
 -- An option is set.
-use Rattle.std.proofs.Common.{◌≡◌, ◌≢◌, ◌<◌, ◌≤◌, ◌+◌, ◌*◌, ◌∷◌, ◌++◌, ℕ, suc, false, List, [], length, Option, Some, None, refl, sym, ap, ◌∙◌, subst, arith}
+use Rattle.std.proofs.Common.{◌≡◌, ◌+◌, ◌∷◌, ◌++◌, ℕ, suc, false, List, [], length, Option, Some, None, refl, sym, ap, ◌∙◌, subst, arith}
 use Rattle.std.specs.Prelude.{IsSomeAnd, option_map, slice_get, slice_set}
 use mathlib.Core.Logic.{dite}
 use native.Mathlib.Decide.{ℕ_discrete}
@@ -16,7 +16,7 @@ use Rattle.sv_model.specs.Families.{AreFamilies, InRange, IsOwn, IsOwnStanding}
 use Rattle.sv_model.specs.Registers.{entry}
 use Rattle.sv_model.specs.Steady.{Sound}
 use Rattle.sv_model.proofs.Registers.{entry-else, entry-same}
-use Rattle.sv_family.specs.Calls.{IsChanged, as_set, with_option}
+use Rattle.sv_family.specs.Calls.{IsChanged, as_set}
 use Rattle.sv_laws.specs.Changes.{option_set}
 use Rattle.sv_laws.specs.Installs.{IsOpen, live_super}
 use Rattle.sv_laws.specs.NewCurrents.{IsOptionSet}

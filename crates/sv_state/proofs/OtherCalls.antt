@@ -1,5 +1,5 @@
 -- Snapshots, and handles of families.
-use Rattle.std.proofs.Common.{◌≡◌, ◌<◌, ◌+◌, ℕ, Bool, true, false, cond, List, length, Option, Some, None, Result, Ok, Err, refl, sym, ap, ◌∙◌, subst}
+use Rattle.std.proofs.Common.{◌≡◌, ◌<◌, ℕ, true, List, length, None, Result, Ok, Err, ap}
 use Rattle.std.specs.Prelude.{IfOk, OnErr, OnOk, nat_le}
 use Rattle.sv_model.specs.declared.records.Family.{Family}
 use Rattle.sv_model.specs.declared.records.Snapshot.{Snapshot}
@@ -10,7 +10,6 @@ use Rattle.sv_model.specs.Books.{Books}
 use Rattle.sv_model.specs.Families.{IsOwnStanding, IsStanding}
 use Rattle.sv_model.specs.Lists.{bit, total}
 use Rattle.sv_model.specs.Refusals.{Refuses}
-use Rattle.sv_model.specs.Registers.{entry}
 use Rattle.sv_model.specs.Steady.{Sound}
 use Rattle.sv_family.specs.Calls.{IsChanged, as_dropped, with_handle}
 use Rattle.sv_journal.specs.Seen.{JournalSeen}

@@ -1,28 +1,21 @@
 -- The family that a lane means, with its current, and what its reference tells of it.
-use Rattle.std.proofs.Common.{◌≡◌, ◌<◌, ◌≤◌, ◌+◌, ◌-◌, ◌∷◌, ◌⊎◌, inl, inr, ℕ, Bool, true, false, cond, List, [], length, Option, Some, None, refl, sym, ap, ◌∙◌, subst, arith}
-use Rattle.std.specs.Prelude.{IfOk, Result, Ok, Err, nat_lt, slice_get}
+use Rattle.std.proofs.Common.{◌≡◌, ◌≤◌, ◌+◌, ◌-◌, inl, inr, ℕ, Bool, true, false, cond, List, length, Option, Some, None, refl, sym, ap, ◌∙◌, subst, arith}
+use Rattle.std.specs.Prelude.{Err, nat_lt, slice_get}
 use Rattle.sv_model.specs.declared.records.Descriptor.{Descriptor}
 use Rattle.sv_model.specs.declared.records.Family.{Family}
 use Rattle.sv_model.specs.declared.records.FileMeta.{FileMeta}
-use Rattle.sv_model.specs.declared.records.Memtable.{Memtable}
-use Rattle.sv_model.specs.declared.records.SuperVersion.{SuperVersion}
 use Rattle.sv_model.specs.declared.records.Version.{Version}
 use Rattle.sv_model.specs.declared.refusals.Refusal.{Refusal}
 use Rattle.sv_model.specs.declared.refusals.Refusal.TheVariants as refusal
-use Rattle.sv_model.specs.declared.settings.Options.{Options}
 use Rattle.sv_model.specs.Books.{Books}
 use Rattle.sv_model.specs.Families.{IsOwn}
-use Rattle.sv_model.specs.Journal.{borne_by, of_family}
-use Rattle.sv_model.specs.Refusals.{IsDue, Refuses}
-use Rattle.sv_model.specs.Registers.{entry}
+use Rattle.sv_model.specs.Journal.{of_family}
+use Rattle.sv_model.specs.Refusals.{IsDue}
 use Rattle.sv_model.specs.Steady.{Sound}
 use Rattle.sv_family.specs.Refused.{change_fault}
-use Rattle.sv_laws.specs.Installs.{IsOpen}
 use Rattle.sv_laws.proofs.Items.{some}
 use Rattle.sv_laws.proofs.OpenFamilies.{ends-at, says}
 use Rattle.sv_objects.specs.declared.bodies.Body.{Body}
-use Rattle.sv_objects.specs.Makings.{IsCellOf}
-use Rattle.sv_state.specs.declared.planning.Plan.{Plan}
 use Rattle.sv_state.specs.declared.planning.Plan.TheVariants.{Add, Switch}
 use Rattle.sv_state.specs.Currents.{HasCurrentAt}
 use Rattle.sv_state.specs.Planning.{compact_fault, IsCellIf, IsPlanOf, MeantAt, Planned, active_rows, is_switch_due}

@@ -1,5 +1,5 @@
 -- A SuperVersion becomes a family's current: its reference.
-use Rattle.std.proofs.Common.{◌≡◌, ◌+◌, ◌*◌, ◌∷◌, ◌++◌, ℕ, true, List, [], length, Option, Some, None, refl, sym, ap, ◌∙◌, subst, drop, map, zero, suc}
+use Rattle.std.proofs.Common.{◌≡◌, ◌+◌, ◌*◌, ◌∷◌, ◌++◌, ℕ, List, [], length, Option, Some, None, refl, sym, ap, ◌∙◌, subst, drop, zero, suc}
 use Rattle.std.specs.Prelude.{slice_get}
 use Rattle.sv_model.specs.declared.writes.Write.{Write}
 use Rattle.sv_model.specs.declared.records.Descriptor.{Descriptor}

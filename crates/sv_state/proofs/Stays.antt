@@ -1,10 +1,8 @@
 -- What is kept of references stays so in later books.
-use Rattle.std.proofs.Common.{◌≡◌, ◌+◌, ◌*◌, ◌∷◌, ◌++◌, ℕ, List, [], Option, Some, None, length, refl, sym, ap, ◌∙◌, subst}
+use Rattle.std.proofs.Common.{◌≡◌, ◌+◌, ◌*◌, ◌∷◌, ℕ, List, [], Option, Some, None, length, refl, sym, ap, ◌∙◌, subst}
 use Rattle.std.specs.Prelude.{slice_get}
 use Rattle.sv_model.specs.declared.writes.Write.{Write}
-use Rattle.sv_model.specs.declared.writes.Row.{Row}
 use Rattle.sv_model.specs.declared.records.Memtable.{Memtable}
-use Rattle.sv_model.specs.declared.records.SuperVersion.{SuperVersion}
 use Rattle.sv_model.specs.declared.records.Top.{Top}
 use Rattle.sv_model.specs.declared.sv_refs.SvRef.{SvRef}
 use Rattle.sv_model.specs.After.{After, KeepsMemtable}
@@ -18,7 +16,7 @@ use Rattle.sv_objects.specs.declared.bodies.Body.{Body}
 use Rattle.sv_objects.specs.Makings.{IsCellOf}
 use Rattle.sv_objects.specs.Shown.{shown}
 use Rattle.sv_laws.proofs.Items.{in-suc}
-use Rattle.sv_state.specs.Refs.{AreFrozenAt, AreKept, IsBodyOf, IsKept, IsRefOf, IsState}
+use Rattle.sv_state.specs.Refs.{AreFrozenAt, IsKept, IsRefOf, IsState}
 
 pub cell-stays : (M N : List Memtable) → GoesOn KeepsMemtable M N → (m cell : ℕ) → IsCellOf M m cell → IsCellOf N m cell
 cell-stays M N goes m cell h = let t = goes m h.it h.at in record { it = t.0; at = t.1; is = t.2.cell ∙ h.is }

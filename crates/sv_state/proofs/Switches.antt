@@ -1,6 +1,6 @@
 -- Writes and switches.
-use Rattle.std.proofs.Common.{◌≡◌, ◌<◌, ◌+◌, ◌*◌, ◌∷◌, ◌++◌, ℕ, true, List, [], length, Option, Some, refl, sym, ap, ◌∙◌, subst, arith}
-use Rattle.std.specs.Prelude.{slice_get, slice_set}
+use Rattle.std.proofs.Common.{◌≡◌, ◌<◌, ◌+◌, ◌∷◌, ◌++◌, ℕ, true, List, [], length, Option, Some, refl, sym, ap, ◌∙◌, subst}
+use Rattle.std.specs.Prelude.{slice_set}
 use Rattle.sv_model.specs.declared.writes.Write.{Write}
 use Rattle.sv_model.specs.declared.records.Descriptor.{Descriptor}
 use Rattle.sv_model.specs.declared.records.Memtable.{Memtable}
@@ -10,7 +10,7 @@ use Rattle.sv_model.specs.declared.records.Top.{Top}
 use Rattle.sv_model.specs.After.{After, KeepsMemtable}
 use Rattle.sv_model.specs.Books.{Books}
 use Rattle.sv_model.specs.Cells.{Cell}
-use Rattle.sv_model.specs.Journal.{borne_by, of_family, rows_of}
+use Rattle.sv_model.specs.Journal.{borne_by, of_family}
 use Rattle.sv_model.specs.Registers.{entry, GoesOn}
 use Rattle.sv_model.specs.Steady.{Sound}
 use Rattle.sv_model.proofs.AfterLaws.{memtable-itself}
@@ -18,7 +18,6 @@ use Rattle.sv_model.proofs.Registers.{entry-new, goes-push}
 use Rattle.sv_laws.specs.Changes.{switched, written}
 use Rattle.sv_laws.specs.Installs.{IsOpen, live_super}
 use Rattle.sv_laws.specs.NewCurrents.{IsSwitched}
-use Rattle.sv_laws.specs.Writes.{IsWritten}
 use Rattle.sv_laws.proofs.Items.{some}
 use Rattle.sv_laws.proofs.Kept.{sound-kept}
 use Rattle.sv_laws.proofs.OpenFamilies.{of_f, says}
@@ -28,7 +27,7 @@ use Rattle.sv_objects.specs.declared.objects.Objects.{Objects}
 use Rattle.sv_objects.specs.Cleanups.{with_objects}
 use Rattle.sv_objects.specs.Makings.{IsCellOf, SwitchMade}
 use Rattle.sv_objects.specs.Shown.{shown}
-use Rattle.sv_state.specs.Refs.{AreFrozenAt, IsBodyOf, IsFrozenAt, IsRefOf}
+use Rattle.sv_state.specs.Refs.{AreFrozenAt, IsBodyOf, IsRefOf}
 use Rattle.sv_state.specs.Writing.{CanSwitch}
 use Rattle.sv_state.proofs.References.{frozen-push, new-ref}
 use Rattle.sv_state.proofs.Stays.{cell-stays, frozen-stay}

@@ -1,5 +1,5 @@
 -- What the plan of a write, of a flush and of a compaction meets, and what it tells.
-use Rattle.std.specs.Prelude.{◌≡◌, ◌⊎◌, ◌&&◌, ◌==◌, ◌∷◌, cond, nat_le, nat_lt, ℕ, Bool, true, false, List, [], Option, Some, None, Result, Ok, Err, IfOk, length, slice_get}
+use Rattle.std.specs.Prelude.{◌≡◌, ◌⊎◌, ◌&&◌, ◌==◌, ◌∷◌, cond, nat_le, nat_lt, ℕ, Bool, true, false, List, [], Option, Some, None, Result, Err, IfOk, length, slice_get}
 use Rattle.sv_model.specs.declared.records.SuperVersion.{SuperVersion}
 use Rattle.sv_model.specs.declared.records.Memtable.{Memtable}
 use Rattle.sv_model.specs.declared.records.MemtableList.{MemtableList}

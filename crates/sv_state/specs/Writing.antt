@@ -1,5 +1,5 @@
 -- When a write and a switch may be made, and what they give.
-use Rattle.std.specs.Prelude.{◌≡◌, ◌<◌, ◌+◌, ◌*◌, ℕ, Option, Some, length, slice_get}
+use Rattle.std.specs.Prelude.{◌≡◌, ◌<◌, ◌+◌, ◌*◌, ℕ, Some, length, slice_get}
 use Rattle.sv_model.specs.declared.writes.Write.{Write}
 use Rattle.sv_model.specs.declared.writes.Row.{Row}
 use Rattle.sv_model.specs.declared.records.SuperVersion.{SuperVersion}

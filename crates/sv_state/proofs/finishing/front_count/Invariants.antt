@@ -1,4 +1,4 @@
-use Rattle.std.proofs.Common.{◌≡◌, ◌+◌, ℕ, drop}
+use Rattle.std.proofs.Common.{◌+◌, ℕ, drop}
 use Rattle.sv_state.specs.Finishing.{HasFront}
 use Rattle.sv_state.proofs.finishing.front_count.Given as goal
 

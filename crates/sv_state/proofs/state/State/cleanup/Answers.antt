@@ -1,13 +1,9 @@
-use Rattle.std.proofs.Common.{◌≡◌, ◌+◌, ◌*◌, ℕ, Some, refl, sym, ap, ◌∙◌, subst, arith}
-use Rattle.std.specs.Prelude.{option_map}
+use Rattle.std.proofs.Common.{refl, sym, ap, ◌∙◌, subst}
 use Rattle.std.specs.Option.{option_copied}
-use Rattle.sv_model.specs.declared.records.SuperVersion.{SuperVersion}
-use Rattle.sv_model.specs.declared.records.Top.{Top}
 use Rattle.sv_model.specs.Books.{Books}
-use Rattle.sv_model.specs.Registers.{entry}
 use Rattle.sv_laws.specs.Changes.{cleaned}
 use Rattle.sv_laws.proofs.Kept.{sound-kept}
-use Rattle.sv_objects.specs.Cleanups.{CanClean, with_objects}
+use Rattle.sv_objects.specs.Cleanups.{with_objects}
 use Rattle.sv_state.specs.Follows.{Follows}
 use Rattle.sv_state.specs.Gone.{IsFree, IsLastOr, SuperGoes}
 use Rattle.sv_state.specs.Seen.{StateSeen}

@@ -1,6 +1,4 @@
-use Rattle.std.proofs.Common.{◌≡◌, ◌<◌, ◌+◌, ◌*◌, ◌∷◌, ◌++◌, ℕ, List, [], length, Option, Some, None, refl, sym, ap, ◌∙◌, subst, arith}
-use Rattle.std.specs.Prelude.{slice_get}
-use Rattle.sv_model.specs.declared.records.Family.{Family}
+use Rattle.std.proofs.Common.{◌≡◌, ◌+◌, ◌∷◌, ◌++◌, ℕ, List, [], length, Option, Some, None, sym, ap, ◌∙◌, subst, arith}
 use Rattle.sv_model.specs.declared.records.Top.{Top}
 use Rattle.sv_model.specs.declared.sv_refs.SvRef.{SvRef}
 use Rattle.sv_model.specs.Books.{Books}
@@ -8,7 +6,6 @@ use Rattle.sv_family.specs.Calls.{new_family}
 use Rattle.sv_laws.specs.NewCurrents.{IsFamilyMade}
 use Rattle.sv_laws.proofs.Growing.{get_within}
 use Rattle.sv_objects.specs.declared.bodies.Body.{Body}
-use Rattle.sv_objects.specs.declared.objects.Objects.{Objects}
 use Rattle.sv_objects.specs.Cleanups.{with_objects}
 use Rattle.sv_state.specs.Follows.{Follows}
 use Rattle.sv_state.specs.Refs.{IsState}

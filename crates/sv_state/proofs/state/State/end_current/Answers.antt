@@ -1,5 +1,4 @@
-use Rattle.std.proofs.Common.{◌≡◌, ℕ, None, refl, sym, ap, ◌∙◌, subst, set}
-use Rattle.sv_model.specs.declared.records.Top.{Top}
+use Rattle.std.proofs.Common.{None, sym, subst}
 use Rattle.sv_model.specs.Books.{Books}
 use Rattle.sv_state.specs.Currents.{CanEnd}
 use Rattle.sv_state.specs.Follows.{Follows}

@@ -1,11 +1,10 @@
-use Rattle.std.proofs.Common.{◌≡◌, ◌<◌, ◌≤◌, ◌+◌, ℕ, List, refl, sym, ap, ◌∙◌, subst, arith}
+use Rattle.std.proofs.Common.{◌≡◌, refl, sym, subst}
 use Rattle.sv_model.specs.Books.{Books}
 use Rattle.sv_state.specs.Follows.{Follows}
 use Rattle.sv_state.specs.Seen.{StateSeen}
 use Rattle.sv_state.specs.Views.{books_of}
 use Rattle.sv_state.proofs.Calls.{follows}
 use Rattle.sv_state.proofs.Stays.{keeps-state}
-use Rattle.std.specs.Prelude.{◌-◌}
 use Rattle.sv_model.specs.Books.{FileRegister}
 use Rattle.sv_state.proofs.FileCalls.{holds-change}
 use Rattle.sv_state.proofs.state.State.end_job.Goals as goal

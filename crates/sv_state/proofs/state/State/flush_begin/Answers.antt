@@ -1,11 +1,8 @@
-use Rattle.std.proofs.Common.{◌≡◌, ◌<◌, ◌≤◌, ◌∷◌, ◌++◌, [], ℕ, false, List, Some, refl, sym, ap, ◌∙◌, subst, arith}
-use Rattle.sv_model.specs.declared.cuts.Bottom.{Bottom}
+use Rattle.std.proofs.Common.{◌≡◌, ◌∷◌, ◌++◌, [], List, refl, sym, ap, ◌∙◌, subst, arith}
 use Rattle.sv_model.specs.declared.records.Descriptor.{Descriptor}
 use Rattle.sv_model.specs.declared.records.FileMeta.{FileMeta}
-use Rattle.sv_model.specs.After.{After}
-use Rattle.sv_model.specs.Books.{Books, FileRegister}
+use Rattle.sv_model.specs.Books.{Books}
 use Rattle.sv_model.specs.Ranges.{reach_of}
-use Rattle.sv_model.specs.Steady.{Sound}
 use Rattle.sv_laws.proofs.Growing.{get_within}
 use Rattle.sv_objects.specs.declared.bodies.Body.{Body}
 use Rattle.sv_state.specs.Capturing.{CanBegin}

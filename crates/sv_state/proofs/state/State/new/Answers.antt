@@ -1,11 +1,9 @@
-use Rattle.std.proofs.Common.{◌≡◌, ◌≤◌, ◌+◌, ◌*◌, ◌∷◌, ◌++◌, [], ℕ, List, Option, Some, refl, sym, ap, ◌∙◌, subst, arith}
-use Rattle.sv_model.specs.declared.records.Top.{Top}
+use Rattle.std.proofs.Common.{◌≡◌, ◌≤◌, ◌∷◌, ◌++◌, [], List, Option, Some, refl, sym, ap, ◌∙◌, subst, arith}
 use Rattle.sv_model.specs.declared.sv_refs.SvRef.{SvRef}
 use Rattle.sv_model.specs.Books.{Books, FileRegister}
 use Rattle.sv_model.specs.Openings.{opening_books}
 use Rattle.sv_objects.specs.declared.bodies.Body.{Body}
 use Rattle.sv_state.specs.Refs.{IsState}
-use Rattle.sv_state.specs.Views.{books_of}
 use Rattle.sv_state.proofs.Firsts.{first-books, first-state, pack_is}
 use Rattle.sv_state.proofs.state.State.new.Goals as goal
 

@@ -1,4 +1,4 @@
-use Rattle.std.proofs.Common.{◌≡◌, ℕ, refl, sym, subst}
+use Rattle.std.proofs.Common.{refl, subst}
 use Rattle.sv_model.specs.Books.{Books}
 use Rattle.sv_state.specs.Follows.{Follows}
 use Rattle.sv_state.specs.Seen.{StateSeen}

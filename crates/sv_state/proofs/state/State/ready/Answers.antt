@@ -1,4 +1,4 @@
-use Rattle.std.proofs.Common.{ℕ, sym, subst}
+use Rattle.std.proofs.Common.{ℕ, subst}
 use Rattle.sv_state.specs.Seen.{StateSeen}
 use Rattle.sv_model.specs.Numbers.{IsReady}
 use Rattle.sv_model.specs.Refusals.{RefusesExactly}

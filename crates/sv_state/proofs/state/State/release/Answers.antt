@@ -1,9 +1,7 @@
-use Rattle.std.proofs.Common.{◌≡◌, ◌<◌, ℕ, List, Some, None, false, true, refl, sym, ap, ◌∙◌, subst, set}
-use Rattle.std.specs.Prelude.{option_map, slice_get}
+use Rattle.std.proofs.Common.{ℕ, List, Some, None, refl, sym, ap, ◌∙◌, subst}
+use Rattle.std.specs.Prelude.{slice_get}
 use Rattle.sv_model.specs.declared.records.Family.{Family}
-use Rattle.sv_model.specs.declared.records.Top.{Top}
 use Rattle.sv_model.specs.Books.{Books}
-use Rattle.sv_model.specs.Families.{is_retired}
 use Rattle.sv_state.specs.Currents.{HasCurrentAt}
 use Rattle.sv_state.specs.Follows.{Follows}
 use Rattle.sv_state.specs.Gone.{IsReleasedAs}

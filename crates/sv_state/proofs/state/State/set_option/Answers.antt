@@ -1,15 +1,12 @@
-use Rattle.std.proofs.Common.{◌≡◌, ◌<◌, ◌+◌, ◌*◌, ◌∷◌, ◌++◌, ℕ, suc, List, [], length, Option, Some, None, refl, sym, ap, ◌∙◌, subst, arith}
+use Rattle.std.proofs.Common.{◌≡◌, ◌+◌, ℕ, suc, List, length, Some, None, refl, sym, ap, ◌∙◌, subst}
 use Rattle.std.specs.Prelude.{slice_get, slice_set}
 use Rattle.sv_model.specs.declared.records.Descriptor.{Descriptor}
-use Rattle.sv_model.specs.declared.records.Family.{Family}
 use Rattle.sv_model.specs.declared.records.SuperVersion.{SuperVersion}
-use Rattle.sv_model.specs.declared.records.Top.{Top}
 use Rattle.sv_model.specs.declared.settings.Options.{Options}
-use Rattle.sv_model.specs.declared.sv_refs.SvRef.{SvRef}
 use Rattle.sv_model.specs.Books.{Books}
 use Rattle.sv_model.specs.Families.{InRange, IsOwnStanding}
 use Rattle.sv_model.proofs.Registers.{entry-same}
-use Rattle.sv_family.specs.Calls.{as_set, with_option}
+use Rattle.sv_family.specs.Calls.{with_option}
 use Rattle.sv_laws.specs.Installs.{IsOpen}
 use Rattle.sv_laws.specs.NewCurrents.{IsOptionSet}
 use Rattle.sv_laws.proofs.Growing.{get_within}

@@ -1,9 +1,5 @@
-use Rattle.std.proofs.Common.{◌≡◌, ◌<◌, ◌+◌, ◌*◌, ◌∷◌, ◌++◌, ℕ, List, [], length, Option, Some, refl, sym, ap, ◌∙◌, subst, arith}
-use Rattle.std.specs.Prelude.{slice_get, slice_set}
+use Rattle.std.proofs.Common.{◌≡◌, ◌+◌, ◌∷◌, ◌++◌, ℕ, [], length, Option, Some, refl, sym, ap, ◌∙◌, subst}
 use Rattle.sv_model.specs.declared.records.Descriptor.{Descriptor}
-use Rattle.sv_model.specs.declared.records.MemtableList.{MemtableList}
-use Rattle.sv_model.specs.declared.records.Top.{Top}
-use Rattle.sv_model.specs.declared.sv_refs.SvRef.{SvRef}
 use Rattle.sv_model.specs.Books.{Books}
 use Rattle.sv_model.specs.Named.{IsLiveList}
 use Rattle.sv_model.specs.Registers.{entry}
@@ -23,7 +19,7 @@ use Rattle.sv_state.specs.Writing.{CanSwitch, TellsSwitch}
 use Rattle.sv_state.proofs.Calls.{follows, same-books}
 use Rattle.sv_state.proofs.Closings.{sets-state}
 use Rattle.sv_state.proofs.References.{body-of, current-ref, old-ref}
-use Rattle.sv_state.proofs.Switches.{b, fresh_at, is-switched, switch-law, switch-ref, vacant_is}
+use Rattle.sv_state.proofs.Switches.{fresh_at, is-switched, switch-law, switch-ref, vacant_is}
 use Rattle.sv_state.proofs.state.State.switch.Goals as goal
 
 pub make_switched-requires-clause-live : goal.make_switched-requires-clause-live

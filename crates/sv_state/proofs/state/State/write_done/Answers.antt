@@ -1,10 +1,9 @@
-use Rattle.std.proofs.Common.{◌≡◌, ◌<◌, ◌+◌, ℕ, List, length, refl, sym, ap, ◌∙◌, subst, arith}
+use Rattle.std.proofs.Common.{◌<◌, refl, sym, ap, ◌∙◌, subst}
 use Rattle.sv_model.specs.declared.writes.Write.{Write}
 use Rattle.sv_model.specs.declared.records.Descriptor.{Descriptor}
 use Rattle.sv_model.specs.After.{After}
 use Rattle.sv_model.specs.Books.{Books}
 use Rattle.sv_model.specs.Steady.{Sound}
-use Rattle.sv_journal.specs.Seen.{JournalSeen}
 use Rattle.sv_state.specs.Follows.{Follows}
 use Rattle.sv_state.specs.Seen.{StateSeen}
 use Rattle.sv_state.specs.Views.{books_of}

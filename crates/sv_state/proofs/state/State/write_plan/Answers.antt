@@ -1,25 +1,19 @@
-use Rattle.std.proofs.Common.{◌≡◌, ◌<◌, ◌≤◌, ◌+◌, ◌-◌, ◌∷◌, ◌⊎◌, inl, inr, ℕ, Bool, cond, List, [], length, Option, Some, None, refl, sym, ap, ◌∙◌, subst, arith}
-use Rattle.std.specs.Prelude.{IfOk, Result, Ok, Err, nat_lt, slice_get}
-use Rattle.sv_model.specs.declared.records.Family.{Family}
+use Rattle.std.proofs.Common.{◌≡◌, ◌-◌, inr, length, sym, ap, ◌∙◌, subst, arith}
+use Rattle.std.specs.Prelude.{Ok, Err, slice_get}
 use Rattle.sv_model.specs.declared.records.SuperVersion.{SuperVersion}
-use Rattle.sv_model.specs.declared.refusals.Refusal.{Refusal}
 use Rattle.sv_model.specs.declared.refusals.Refusal.TheVariants.{OutOfMemory}
-use Rattle.sv_model.specs.declared.settings.Options.{Options}
 use Rattle.sv_model.specs.Books.{Books}
 use Rattle.sv_model.specs.Families.{IsOwnStanding}
 use Rattle.sv_laws.specs.Installs.{IsOpen}
 use Rattle.sv_laws.proofs.Growing.{get_within}
 use Rattle.sv_objects.specs.declared.bodies.Body.{Body}
-use Rattle.sv_state.specs.declared.planning.FlushPlan.{FlushPlan}
-use Rattle.sv_state.specs.declared.planning.Plan.{Plan}
 use Rattle.sv_state.specs.Currents.{HasCurrentAt}
-use Rattle.sv_state.specs.Planning.{IsFlushPlan, IsPlanOf, MeantAt, Planned, active_rows, flush_due, flush_fault, is_switch_due, write_due, write_fault}
+use Rattle.sv_state.specs.Planning.{IsPlanOf, MeantAt, Planned, active_rows, is_switch_due, write_due, write_fault}
 use Rattle.sv_state.specs.Refs.{IsBodyOf}
 use Rattle.sv_state.specs.Seen.{StateSeen}
 use Rattle.sv_state.specs.Views.{books_of}
-use Rattle.sv_state.proofs.Finishes.{list-paired}
 use Rattle.sv_state.proofs.OptionSets.{options-read, own-it, own-open, some-and}
-use Rattle.sv_state.proofs.Plannings.{base-below, cell-if, due-exactly, meant, members-are, plan-is, rows-are}
+use Rattle.sv_state.proofs.Plannings.{base-below, due-exactly, meant, members-are, plan-is, rows-are}
 use Rattle.sv_state.proofs.References.{body-of, current-ref}
 use Rattle.sv_state.proofs.state.State.write_plan.Goals as goal
 
