@@ -50,6 +50,17 @@ impl Held {
         Ok(Held { frozen, files })
     }
 
+    /// The frozen memtables of the body, and this file alone.
+    pub fn alone(alloc: Global, body: &Body, file: FileMeta) -> Result<Held, OutOfMemory>
+        ensures frozen { IfOk result (λ held. shown held.frozen.items ≡ shown body.now.frozen) }
+        ensures files { IfOk result (λ held. held.files.items ≡ file ∷ []) }
+    {
+        let frozen = copies(alloc, body.frozen.as_slice())?;
+        let mut files = Vec::new(alloc);
+        files.push(file)?;
+        Ok(Held { frozen, files })
+    }
+
     /// One more frozen memtable, the newest. A refusal leaves them as they were.
     pub fn push(&mut self, cell: u8, rows: Arc<Frozen>) -> Result<(), OutOfMemory>
         ensures frozen { IfOk result (λ _. shown self.new.frozen.items ≡ shown self.old.frozen.items ++ (cell, arc_value rows) ∷ []) }

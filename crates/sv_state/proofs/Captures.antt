@@ -2,6 +2,7 @@
 use Rattle.std.proofs.Common.{◌≡◌, ◌<◌, ◌≤◌, ◌+◌, ◌==◌, ◌||◌, ◌∷◌, ◌++◌, ℕ, Bool, true, false, List, [], length, Option, Some, None, refl, sym, ap, ◌∙◌, subst, arith}
 use Rattle.std.specs.Prelude.{if◌then◌else◌, nat_le, slice_get}
 use Rattle.sv_model.specs.declared.records.FileMeta.{FileMeta}
+use Rattle.sv_model.specs.declared.records.SuperVersion.{SuperVersion}
 use Rattle.sv_model.specs.declared.records.Version.{Version}
 use Rattle.sv_model.specs.declared.records.FileStatus.TheVariants.{Obsolete}
 use Rattle.sv_model.specs.declared.refusals.Refusal.{Refusal}
@@ -13,9 +14,10 @@ use Rattle.sv_model.specs.Ranges.{reach_of}
 use Rattle.sv_model.specs.Registers.{entry}
 use Rattle.sv_model.specs.Steady.{Sound}
 use Rattle.sv_files.specs.Calls.{Settles, capture_fault, captured_for}
-use Rattle.sv_laws.specs.Captures.{IsFileCaptured, IsFlushBegun, IsGivenUp}
-use Rattle.sv_laws.specs.Changes.{flush_begun, given_up}
+use Rattle.sv_laws.specs.Captures.{IsFileCaptured, IsFlushBegun, IsGivenUp, IsMergePlanned}
+use Rattle.sv_laws.specs.Changes.{flush_begun, given_up, merge_planned}
 use Rattle.sv_laws.specs.Snapping.{HasLiveCuts}
+use Rattle.sv_laws.specs.Installs.{IsOpen}
 use Rattle.sv_laws.proofs.Items.{some}
 use Rattle.sv_laws.proofs.Kept.{sound-kept}
 use Rattle.sv_objects.specs.declared.bodies.Body.{Body}
@@ -69,3 +71,22 @@ begin-law a k f can body w file F M from to kind captured = sound-kept a (record
 
 pub give-up-law : (a : Books) (k : Sound a) (n : ℕ) (F : FileRegister) → Settles n Obsolete a.files F → Sound (record a { files = F }) × After a (record a { files = F })
 give-up-law a k n F h = sound-kept a (record a { files = F }) k (given_up h.family n (record { settled = h.settled; is = refl }))
+
+pub is-merge-planned : (a : Books) (f s : ℕ) (c : SuperVersion) (o : IsOpen a f s c) (body : Body) (w : IsBodyOf a c.descriptor body) (file : FileMeta) (F : FileRegister) (M : List FileMeta)
+    → file.from ≡ 0 → file.to ≡ reach_of body.files → file.bottom.last ≡ true → 0 < length body.files → IsFileCaptured a (record a { files = F; metas = M }) f file
+    → IsMergePlanned a (record a { files = F; metas = M }) f file
+is-merge-planned a f s c o body w file F M from to kind some captured = record {
+  s = s;
+  c = c;
+  is_open = o;
+  version = w.version;
+  version_at = w.version_at;
+  some = subst (λ l. 0 < length l) w.files_are some;
+  from_is = from;
+  to_is = to ∙ ap reach_of w.files_are;
+  kind = kind;
+  captured = captured;
+}
+
+pub merge-law : (a b : Books) (k : Sound a) (f : ℕ) (file : FileMeta) → IsMergePlanned a b f file → Sound b × After a b
+merge-law a b k f file h = sound-kept a b k (merge_planned f file h)

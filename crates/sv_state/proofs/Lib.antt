@@ -4,8 +4,11 @@ mod Closings
 mod Creations
 mod FileCalls
 mod Firsts
+mod Finishes
+mod Fronts
 mod OptionSets
 mod OtherCalls
+mod Plannings
 mod References
 mod Stays
 mod Switches

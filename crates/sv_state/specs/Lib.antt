@@ -1,8 +1,10 @@
 pub mod Capturing
 pub mod Changing
 pub mod Currents
+pub mod Finishing
 pub mod Follows
 pub mod Gone
+pub mod Planning
 pub mod Refs
 pub mod Seen
 pub mod Taken

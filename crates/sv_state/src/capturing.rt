@@ -49,7 +49,7 @@ impl State {
 }
 
 // The file of this number, over this range.
-fn file_over(number: FileNumber, from: u64, to: u64, last: bool, cuts: &Cuts) -> FileMeta
+pub(crate) fn file_over(number: FileNumber, from: u64, to: u64, last: bool, cuts: &Cuts) -> FileMeta
     ensures { result ≡ record { number = number; from = from; to = to; bottom = record { last = last; cuts = cuts.now } } }
 {
     FileMeta {
@@ -61,7 +61,7 @@ fn file_over(number: FileNumber, from: u64, to: u64, last: bool, cuts: &Cuts) ->
 }
 
 // The last write that the files cover.
-fn reach(files: &[FileMeta]) -> u64
+pub(crate) fn reach(files: &[FileMeta]) -> u64
     ensures { result ≡ reach_of files.now }
 {
     let mut reach = 0;

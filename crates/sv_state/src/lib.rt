@@ -5,14 +5,18 @@ mod capturing;
 mod changing;
 mod closing;
 mod families;
+mod finishing;
 mod installs;
 mod jobs;
+mod merging;
 mod openings;
+mod planning;
 mod readers;
 mod snapshots;
 mod state;
 mod writing;
 
 pub use installs::Install;
+pub use planning::{FlushPlan, Plan};
 pub use state::State;
 pub use sv_objects::Body;

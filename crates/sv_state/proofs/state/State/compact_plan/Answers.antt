@@ -1,0 +1,249 @@
+use Rattle.std.proofs.Common.{◌≡◌, ◌<◌, ◌≤◌, ◌+◌, ◌-◌, ◌∷◌, ◌++◌, ◌⊎◌, inl, inr, ℕ, Bool, cond, List, [], length, Option, Some, None, refl, sym, ap, ◌∙◌, subst, arith}
+use Rattle.std.specs.Prelude.{IfOk, Result, Ok, Err, nat_lt, slice_get}
+use Rattle.sv_model.specs.declared.records.Family.{Family}
+use Rattle.sv_model.specs.declared.records.SuperVersion.{SuperVersion}
+use Rattle.sv_model.specs.declared.refusals.Refusal.{Refusal}
+use Rattle.sv_model.specs.declared.settings.Options.{Options}
+use Rattle.sv_model.specs.Books.{Books}
+use Rattle.sv_model.specs.Families.{IsOwnStanding}
+use Rattle.sv_laws.specs.Installs.{IsOpen}
+use Rattle.sv_laws.proofs.Growing.{get_within}
+use Rattle.sv_objects.specs.declared.bodies.Body.{Body}
+use Rattle.sv_state.specs.declared.planning.FlushPlan.{FlushPlan}
+use Rattle.sv_state.specs.declared.planning.Plan.{Plan}
+use Rattle.sv_state.specs.Currents.{HasCurrentAt}
+use Rattle.sv_state.specs.Planning.{IsCellIf, IsFlushPlan, IsPlanOf, MeantAt, Planned, active_rows, flush_due, flush_fault, is_switch_due, write_due, write_fault}
+use Rattle.sv_state.specs.Refs.{IsBodyOf}
+use Rattle.sv_state.specs.Seen.{StateSeen}
+use Rattle.sv_state.specs.Views.{books_of}
+use Rattle.sv_state.proofs.Finishes.{list-paired}
+use Rattle.sv_state.proofs.OptionSets.{options-read, own-it, own-open, some-and}
+use Rattle.sv_state.proofs.Plannings.{base-below, cell-if, due-exactly, files-are, meant, members-are, merge-refused, only-memory, plan-is, rows-are}
+use Rattle.sv_state.proofs.References.{body-of, current-ref}
+use Rattle.sv_model.specs.declared.records.FileMeta.{FileMeta}
+use Rattle.sv_model.specs.declared.refusals.Refusal.TheVariants.{OutOfMemory}
+use Rattle.sv_model.specs.Books.{FileRegister}
+use Rattle.sv_model.specs.Ranges.{reach_of}
+use Rattle.sv_files.specs.Calls.{capture_fault}
+use Rattle.sv_laws.specs.Captures.{IsMergePlanned}
+use Rattle.sv_state.specs.Follows.{Follows}
+use Rattle.sv_state.specs.Planning.{compact_due, compact_fault}
+use Rattle.sv_state.proofs.Calls.{follows, same-books}
+use Rattle.sv_state.proofs.Captures.{is-captured, is-merge-planned, merge-law}
+use Rattle.sv_state.proofs.Stays.{keeps-state}
+use Rattle.sv_state.proofs.state.State.compact_plan.Goals as goal
+
+pub body_at-body-requires : goal.body_at-body-requires
+body_at-body-requires c =
+    let i = c.self.inside in
+    let a : Books = books_of i in
+    let k = c.self.invariant.sound in
+    let f = c.in-Ok.family in
+    let lane = c.args.lane in
+    let name = c.args.name.now in
+    let x = some-and (slice_get i.families f) (IsOwnStanding lane name) c.in-Ok.ensures.found in
+    let cur : HasCurrentAt a f = subst (λ (z : StateSeen). HasCurrentAt z.books f) (sym c.self.view_is) (c.requires.current f x.0 (ap (λ (z : StateSeen). slice_get z.books.families f) (sym c.self.view_is) ∙ x.1) x.2.own) in
+    let it : SuperVersion = own-it a k f x.0 x.1 x.2.stands cur in
+    let opening : IsOpen a f cur.serial it = own-open a k f x.0 x.1 x.2.stands cur in
+    let ref = current-ref a i.held.items c.self.invariant.kept f cur.serial it opening.current in
+    (ref.0, ref.1)
+
+pub due_compaction-requires : goal.due_compaction-requires
+due_compaction-requires c =
+    let i = c.self.inside in
+    let a : Books = books_of i in
+    let k = c.self.invariant.sound in
+    let f = c.in-Ok.family in
+    let lane = c.args.lane in
+    let name = c.args.name.now in
+    let x = some-and (slice_get i.families f) (IsOwnStanding lane name) c.in-Ok.ensures.found in
+    omega (arith, get_within i.families f x.0 x.1, k.lawful.limits.families)
+
+pub live_cuts-cuts-requires : goal.live_cuts-cuts-requires
+live_cuts-cuts-requires c =
+    let i = c.self.inside in
+    let a : Books = books_of i in
+    let k = c.self.invariant.sound in
+    let f = c.in-Ok.family in
+    let lane = c.args.lane in
+    let name = c.args.name.now in
+    let x = some-and (slice_get i.families f) (IsOwnStanding lane name) c.in-Ok.ensures.found in
+    omega (arith, get_within i.families f x.0 x.1, k.lawful.limits.families)
+
+pub capture-requires-clause-within : goal.capture-requires-clause-within
+capture-requires-clause-within c =
+    let i = c.self.inside in
+    let a : Books = books_of i in
+    let k = c.self.invariant.sound in
+    let f = c.in-Ok.family in
+    let lane = c.args.lane in
+    let name = c.args.name.now in
+    let x = some-and (slice_get i.families f) (IsOwnStanding lane name) c.in-Ok.ensures.found in
+    omega (arith, get_within i.families f x.0 x.1, k.lawful.limits.families)
+
+pub returns-in-Err-due_compaction-clause-planned : goal.returns-in-Err-due_compaction-clause-planned
+returns-in-Err-due_compaction-clause-planned c =
+    let i = c.self.inside in
+    let a : Books = books_of i in
+    let k = c.self.invariant.sound in
+    let f = c.in-Ok.family in
+    let lane = c.args.lane in
+    let name = c.args.name.now in
+    let x = some-and (slice_get i.families f) (IsOwnStanding lane name) c.in-Ok.ensures.found in
+    let cur : HasCurrentAt a f = subst (λ (z : StateSeen). HasCurrentAt z.books f) (sym c.self.view_is) (c.requires.current f x.0 (ap (λ (z : StateSeen). slice_get z.books.families f) (sym c.self.view_is) ∙ x.1) x.2.own) in
+    let it : SuperVersion = own-it a k f x.0 x.1 x.2.stands cur in
+    let opening : IsOpen a f cur.serial it = own-open a k f x.0 x.1 x.2.stands cur in
+    let ref = current-ref a i.held.items c.self.invariant.kept f cur.serial it opening.current in
+    let at = c.body_at-body.ensures ref.0 ref.1 in
+    let old : Body = c.body_at-body.result.now in
+    let w : IsBodyOf a it.descriptor old = subst (IsBodyOf a it.descriptor) (sym at) (body-of a cur.serial ref.0.pack ref.0.body.value it opening.current.has ref.2) in
+    let m : MeantAt a lane name = meant a k lane name f x.0 x.1 x.2.own x.2.stands cur in
+    let due_is : compact_due a.files a.journal a.snapshots f c.as_slice-files.result.now ≡ compact_fault a m = ap (compact_due a.files a.journal a.snapshots f) (c.as_slice-files.ensures ∙ files-are a k lane name f x.0 x.1 x.2.own x.2.stands cur old w) in
+    merge-refused a c.args.self.now.books (ap (λ (z : StateSeen). z.books) c.self.view_is) lane name (λ n g. Unit {0}) m c.in-Err-due_compaction.refusal (due-exactly (compact_fault a m) c.in-Err-due_compaction.refusal (sym due_is ∙ c.in-Err-due_compaction.ensures.refused))
+
+pub returns-in_default-clause-planned : goal.returns-in_default-clause-planned
+returns-in_default-clause-planned c =
+    let i = c.self.inside in
+    let a : Books = books_of i in
+    let k = c.self.invariant.sound in
+    let f = c.in-Ok.family in
+    let lane = c.args.lane in
+    let name = c.args.name.now in
+    let x = some-and (slice_get i.families f) (IsOwnStanding lane name) c.in-Ok.ensures.found in
+    let cur : HasCurrentAt a f = subst (λ (z : StateSeen). HasCurrentAt z.books f) (sym c.self.view_is) (c.requires.current f x.0 (ap (λ (z : StateSeen). slice_get z.books.families f) (sym c.self.view_is) ∙ x.1) x.2.own) in
+    let it : SuperVersion = own-it a k f x.0 x.1 x.2.stands cur in
+    let opening : IsOpen a f cur.serial it = own-open a k f x.0 x.1 x.2.stands cur in
+    let ref = current-ref a i.held.items c.self.invariant.kept f cur.serial it opening.current in
+    let at = c.body_at-body.ensures ref.0 ref.1 in
+    let old : Body = c.body_at-body.result.now in
+    let w : IsBodyOf a it.descriptor old = subst (IsBodyOf a it.descriptor) (sym at) (body-of a cur.serial ref.0.pack ref.0.body.value it opening.current.has ref.2) in
+    let m : MeantAt a lane name = meant a k lane name f x.0 x.1 x.2.own x.2.stands cur in
+    let due_is : compact_due a.files a.journal a.snapshots f c.as_slice-files.result.now ≡ compact_fault a m = ap (compact_due a.files a.journal a.snapshots f) (c.as_slice-files.ensures ∙ files-are a k lane name f x.0 x.1 x.2.own x.2.stands cur old w) in
+    merge-refused a c.args.self.now.books (ap (λ (z : StateSeen). z.books) c.self.view_is) lane name (λ n g. Unit {0}) m OutOfMemory tt
+
+pub returns-in_default-clause-follows : goal.returns-in_default-clause-follows
+returns-in_default-clause-follows c =
+    let a : Books = books_of c.self.inside in
+    let b : Books = record a { metas = c.reserve.new.self.items } in
+    subst (λ (z : StateSeen). Follows z.books b) c.self.view_is (follows a b (same-books a b c.self.invariant.sound (ap (λ (l : List FileMeta). record a { metas = l }) c.reserve.ensures.items)))
+
+pub returns-in-Err-capture-clause-planned : goal.returns-in-Err-capture-clause-planned
+returns-in-Err-capture-clause-planned c =
+    let i = c.self.inside in
+    let a : Books = books_of i in
+    let k = c.self.invariant.sound in
+    let f = c.in-Ok.family in
+    let lane = c.args.lane in
+    let name = c.args.name.now in
+    let x = some-and (slice_get i.families f) (IsOwnStanding lane name) c.in-Ok.ensures.found in
+    let cur : HasCurrentAt a f = subst (λ (z : StateSeen). HasCurrentAt z.books f) (sym c.self.view_is) (c.requires.current f x.0 (ap (λ (z : StateSeen). slice_get z.books.families f) (sym c.self.view_is) ∙ x.1) x.2.own) in
+    let it : SuperVersion = own-it a k f x.0 x.1 x.2.stands cur in
+    let opening : IsOpen a f cur.serial it = own-open a k f x.0 x.1 x.2.stands cur in
+    let ref = current-ref a i.held.items c.self.invariant.kept f cur.serial it opening.current in
+    let at = c.body_at-body.ensures ref.0 ref.1 in
+    let old : Body = c.body_at-body.result.now in
+    let w : IsBodyOf a it.descriptor old = subst (IsBodyOf a it.descriptor) (sym at) (body-of a cur.serial ref.0.pack ref.0.body.value it opening.current.has ref.2) in
+    let m : MeantAt a lane name = meant a k lane name f x.0 x.1 x.2.own x.2.stands cur in
+    let due_is : compact_due a.files a.journal a.snapshots f c.as_slice-files.result.now ≡ compact_fault a m = ap (compact_due a.files a.journal a.snapshots f) (c.as_slice-files.ensures ∙ files-are a k lane name f x.0 x.1 x.2.own x.2.stands cur old w) in
+    merge-refused a c.args.self.now.books (ap (λ (z : StateSeen). z.books) c.self.view_is) lane name (λ n g. Unit {0}) m c.in-Err-capture.refusal (only-memory (capture_fault a.files) (compact_fault a m) c.in-Err-capture.refusal c.in-Ok-due_compaction.ensures.may c.in-Err-capture.ensures.refused)
+
+pub returns-in-Err-capture-clause-follows : goal.returns-in-Err-capture-clause-follows
+returns-in-Err-capture-clause-follows c =
+    let a : Books = books_of c.self.inside in
+    let b : Books = record a { files = c.capture.new.self; metas = c.reserve.new.self.items } in
+    subst (λ (z : StateSeen). Follows z.books b) c.self.view_is (follows a b (same-books a b c.self.invariant.sound (λ i. record a { files = c.in-Err-capture.ensures.kept i; metas = c.reserve.ensures.items i })))
+
+pub invariant_of-self-2 : goal.invariant_of-self-2
+invariant_of-self-2 c =
+    let i = c.self.inside in
+    let a : Books = books_of i in
+    let k = c.self.invariant.sound in
+    let f = c.in-Ok.family in
+    let lane = c.args.lane in
+    let name = c.args.name.now in
+    let x = some-and (slice_get i.families f) (IsOwnStanding lane name) c.in-Ok.ensures.found in
+    let cur : HasCurrentAt a f = subst (λ (z : StateSeen). HasCurrentAt z.books f) (sym c.self.view_is) (c.requires.current f x.0 (ap (λ (z : StateSeen). slice_get z.books.families f) (sym c.self.view_is) ∙ x.1) x.2.own) in
+    let it : SuperVersion = own-it a k f x.0 x.1 x.2.stands cur in
+    let opening : IsOpen a f cur.serial it = own-open a k f x.0 x.1 x.2.stands cur in
+    let ref = current-ref a i.held.items c.self.invariant.kept f cur.serial it opening.current in
+    let at = c.body_at-body.ensures ref.0 ref.1 in
+    let old : Body = c.body_at-body.result.now in
+    let w : IsBodyOf a it.descriptor old = subst (IsBodyOf a it.descriptor) (sym at) (body-of a cur.serial ref.0.pack ref.0.body.value it opening.current.has ref.2) in
+    let m : MeantAt a lane name = meant a k lane name f x.0 x.1 x.2.own x.2.stands cur in
+    let due_is : compact_due a.files a.journal a.snapshots f c.as_slice-files.result.now ≡ compact_fault a m = ap (compact_due a.files a.journal a.snapshots f) (c.as_slice-files.ensures ∙ files-are a k lane name f x.0 x.1 x.2.own x.2.stands cur old w) in
+    let file : FileMeta = c.file_over.result in
+    let e = c.file_over.ensures in
+    let F : FileRegister = c.capture.new.self in
+    let L : List FileMeta = c.push_reserved.new.self.items in
+    let caught = c.in-Ok-capture.ensures.captured in
+    let new : Books = record a { files = F; metas = L } in
+    let h : IsMergePlanned a new f file = is-merge-planned a f cur.serial it opening old w file F L (ap (λ (z : FileMeta). z.from) e) (ap (λ (z : FileMeta). z.to) e ∙ c.reach-to.ensures ∙ ap reach_of c.as_slice-files.ensures) (ap (λ (z : FileMeta). z.bottom.last) e)
+    (subst (λ l. 0 < length l) c.as_slice-files.ensures c.in-Ok-due_compaction.ensures.some)
+    (is-captured a k f file F L c.in-Ok-due_compaction.ensures.idle c.in-Ok-capture.ensures.refused (ap (λ (z : FileMeta). z.number) e ∙ caught.0)
+    (c.live_cuts-cuts.ensures file (ap (λ (z : FileMeta). z.from) e) (ap (λ (z : FileMeta). z.to) e) (ap (λ (z : FileMeta). z.bottom.cuts) e)) caught.1
+    (c.push_reserved.ensures.items ∙ ap (λ (l : List FileMeta). l ++ file ∷ []) c.reserve.ensures.items)) in
+    keeps-state a new i.held.items c.self.invariant (merge-law a new k f file h) refl
+
+pub returns-clause-planned : goal.returns-clause-planned
+returns-clause-planned c =
+    let i = c.self.inside in
+    let a : Books = books_of i in
+    let k = c.self.invariant.sound in
+    let f = c.in-Ok.family in
+    let lane = c.args.lane in
+    let name = c.args.name.now in
+    let x = some-and (slice_get i.families f) (IsOwnStanding lane name) c.in-Ok.ensures.found in
+    let cur : HasCurrentAt a f = subst (λ (z : StateSeen). HasCurrentAt z.books f) (sym c.self.view_is) (c.requires.current f x.0 (ap (λ (z : StateSeen). slice_get z.books.families f) (sym c.self.view_is) ∙ x.1) x.2.own) in
+    let it : SuperVersion = own-it a k f x.0 x.1 x.2.stands cur in
+    let opening : IsOpen a f cur.serial it = own-open a k f x.0 x.1 x.2.stands cur in
+    let ref = current-ref a i.held.items c.self.invariant.kept f cur.serial it opening.current in
+    let at = c.body_at-body.ensures ref.0 ref.1 in
+    let old : Body = c.body_at-body.result.now in
+    let w : IsBodyOf a it.descriptor old = subst (IsBodyOf a it.descriptor) (sym at) (body-of a cur.serial ref.0.pack ref.0.body.value it opening.current.has ref.2) in
+    let m : MeantAt a lane name = meant a k lane name f x.0 x.1 x.2.own x.2.stands cur in
+    let due_is : compact_due a.files a.journal a.snapshots f c.as_slice-files.result.now ≡ compact_fault a m = ap (compact_due a.files a.journal a.snapshots f) (c.as_slice-files.ensures ∙ files-are a k lane name f x.0 x.1 x.2.own x.2.stands cur old w) in
+    let file : FileMeta = c.file_over.result in
+    let e = c.file_over.ensures in
+    let F : FileRegister = c.capture.new.self in
+    let L : List FileMeta = c.push_reserved.new.self.items in
+    let caught = c.in-Ok-capture.ensures.captured in
+    let new : Books = record a { files = F; metas = L } in
+    let h : IsMergePlanned a new f file = is-merge-planned a f cur.serial it opening old w file F L (ap (λ (z : FileMeta). z.from) e) (ap (λ (z : FileMeta). z.to) e ∙ c.reach-to.ensures ∙ ap reach_of c.as_slice-files.ensures) (ap (λ (z : FileMeta). z.bottom.last) e)
+    (subst (λ l. 0 < length l) c.as_slice-files.ensures c.in-Ok-due_compaction.ensures.some)
+    (is-captured a k f file F L c.in-Ok-due_compaction.ensures.idle c.in-Ok-capture.ensures.refused (ap (λ (z : FileMeta). z.number) e ∙ caught.0)
+    (c.live_cuts-cuts.ensures file (ap (λ (z : FileMeta). z.from) e) (ap (λ (z : FileMeta). z.to) e) (ap (λ (z : FileMeta). z.bottom.cuts) e)) caught.1
+    (c.push_reserved.ensures.items ∙ ap (λ (l : List FileMeta). l ++ file ∷ []) c.reserve.ensures.items)) in
+    subst (λ (z : StateSeen). Planned {T = FileMeta} z.books lane name (compact_fault z.books) (λ n g. IsMergePlanned z.books new n.family g) (Ok c.file_over-2.result)) c.self.view_is
+    (inr (m, sym due_is ∙ c.in-Ok-due_compaction.ensures.refused, subst (IsMergePlanned a new f) (c.file_over.ensures ∙ sym c.file_over-2.ensures) h))
+
+pub returns-clause-follows : goal.returns-clause-follows
+returns-clause-follows c =
+    let i = c.self.inside in
+    let a : Books = books_of i in
+    let k = c.self.invariant.sound in
+    let f = c.in-Ok.family in
+    let lane = c.args.lane in
+    let name = c.args.name.now in
+    let x = some-and (slice_get i.families f) (IsOwnStanding lane name) c.in-Ok.ensures.found in
+    let cur : HasCurrentAt a f = subst (λ (z : StateSeen). HasCurrentAt z.books f) (sym c.self.view_is) (c.requires.current f x.0 (ap (λ (z : StateSeen). slice_get z.books.families f) (sym c.self.view_is) ∙ x.1) x.2.own) in
+    let it : SuperVersion = own-it a k f x.0 x.1 x.2.stands cur in
+    let opening : IsOpen a f cur.serial it = own-open a k f x.0 x.1 x.2.stands cur in
+    let ref = current-ref a i.held.items c.self.invariant.kept f cur.serial it opening.current in
+    let at = c.body_at-body.ensures ref.0 ref.1 in
+    let old : Body = c.body_at-body.result.now in
+    let w : IsBodyOf a it.descriptor old = subst (IsBodyOf a it.descriptor) (sym at) (body-of a cur.serial ref.0.pack ref.0.body.value it opening.current.has ref.2) in
+    let m : MeantAt a lane name = meant a k lane name f x.0 x.1 x.2.own x.2.stands cur in
+    let due_is : compact_due a.files a.journal a.snapshots f c.as_slice-files.result.now ≡ compact_fault a m = ap (compact_due a.files a.journal a.snapshots f) (c.as_slice-files.ensures ∙ files-are a k lane name f x.0 x.1 x.2.own x.2.stands cur old w) in
+    let file : FileMeta = c.file_over.result in
+    let e = c.file_over.ensures in
+    let F : FileRegister = c.capture.new.self in
+    let L : List FileMeta = c.push_reserved.new.self.items in
+    let caught = c.in-Ok-capture.ensures.captured in
+    let new : Books = record a { files = F; metas = L } in
+    let h : IsMergePlanned a new f file = is-merge-planned a f cur.serial it opening old w file F L (ap (λ (z : FileMeta). z.from) e) (ap (λ (z : FileMeta). z.to) e ∙ c.reach-to.ensures ∙ ap reach_of c.as_slice-files.ensures) (ap (λ (z : FileMeta). z.bottom.last) e)
+    (subst (λ l. 0 < length l) c.as_slice-files.ensures c.in-Ok-due_compaction.ensures.some)
+    (is-captured a k f file F L c.in-Ok-due_compaction.ensures.idle c.in-Ok-capture.ensures.refused (ap (λ (z : FileMeta). z.number) e ∙ caught.0)
+    (c.live_cuts-cuts.ensures file (ap (λ (z : FileMeta). z.from) e) (ap (λ (z : FileMeta). z.to) e) (ap (λ (z : FileMeta). z.bottom.cuts) e)) caught.1
+    (c.push_reserved.ensures.items ∙ ap (λ (l : List FileMeta). l ++ file ∷ []) c.reserve.ensures.items)) in
+    subst (λ (z : StateSeen). Follows z.books new) c.self.view_is (follows a new (merge-law a new k f file h))
+
