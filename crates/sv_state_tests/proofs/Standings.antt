@@ -54,7 +54,7 @@ own-currents b w h lane name f x at own = h.currents f x at (not-retired x lane 
 free-kept : (a b : Books) (pack : ℕ) → IsFree a pack
     → ((n : ℕ) (x : SuperVersion) → entry a.supers n ≡ Some x → entry b.supers n ≡ Some x)
     → ((f s : ℕ) (t : Top) (x : SuperVersion) → slice_get b.tops f ≡ Some t → t.current ≡ Some s → entry a.supers s ≡ Some x
-        → (u : Top) × (slice_get a.tops f ≡ Some u) × (u.current ≡ Some s))
+    → (u : Top) × (slice_get a.tops f ≡ Some u) × (u.current ≡ Some s))
     → IsFree b pack
 free-kept a b pack h on back = record {
   serial = h.serial;
@@ -88,8 +88,8 @@ one-family a b w f it y h sound at open_ is = record {
   sound = sound;
   currents = λ g x e stands.
       let c : HasCurrentAt a g = dite (ℕ_discrete g f)
-          (λ q. subst (HasCurrentAt a) (sym q) (h.currents f it at open_))
-          (λ q. h.currents g x (sym ((placed-set a.families f it y at).others g q) ∙ ap (λ (z : Books). slice_get z.families g) (sym is) ∙ e) stands) in
+      (λ q. subst (HasCurrentAt a) (sym q) (h.currents f it at open_))
+      (λ q. h.currents g x (sym ((placed-set a.families f it y at).others g q) ∙ ap (λ (z : Books). slice_get z.families g) (sym is) ∙ e) stands) in
       record { top = c.top; at = ap (λ (z : Books). slice_get z.tops g) is ∙ c.at; serial = c.serial; is = c.is };
   waits = go-kept a b w
       (λ pack free. free-kept a b pack free (λ n x e. ap (λ (z : Books). entry z.supers n) is ∙ e) (λ g s t x e c q. (t, ap (λ (z : Books). slice_get z.tops g) (sym is) ∙ e, c)))
@@ -99,8 +99,8 @@ one-family a b w f it y h sound at open_ is = record {
 -- ---- a SuperVersion more
 
 module _ (a b : Books) (w : Option ℕ) (h : Stands a w) (sound : Sound b) (f : ℕ) (x : SuperVersion) (u : Top)
-  (supers : b.supers ≡ a.supers ++ x ∷ []) (tops : IsPlaced a.tops b.tops f u) (is : u.current ≡ Some (length a.supers + 1))
-  (families : (g : ℕ) (y : Family) → g ≢ f → slice_get b.families g ≡ Some y → slice_get a.families g ≡ Some y) where
+    (supers : b.supers ≡ a.supers ++ x ∷ []) (tops : IsPlaced a.tops b.tops f u) (is : u.current ≡ Some (length a.supers + 1))
+    (families : (g : ℕ) (y : Family) → g ≢ f → slice_get b.families g ≡ Some y → slice_get a.families g ≡ Some y) where
   on : (n : ℕ) (y : SuperVersion) → entry a.supers n ≡ Some y → entry b.supers n ≡ Some y
   on n y e = ap (λ l. entry l n) supers ∙ entry-old a.supers (x ∷ []) n y e
 
