@@ -1,0 +1,16 @@
+pub mod CompactLemmas
+pub mod FitsLater
+pub mod FlushLemmas
+pub mod GetLemmas
+pub mod KnowsLaws
+pub mod KnowsMore
+pub mod Lasting
+pub mod OutputLemmas
+pub mod Refusals
+pub mod RepliesGoOn
+pub mod WorkedBackup
+pub mod WorkedBooks
+pub mod WorkedFamilies
+pub mod WorkedFlush
+pub mod WorkedSnapshots
+pub mod WriteLemmas
