@@ -23,7 +23,6 @@ use Rattle.sv_model.specs.Named.{numbers_of}
 use Rattle.sv_model.specs.Numbers.{HasStatus}
 use Rattle.sv_model.specs.Registers.{entry, Has}
 use Rattle.sv_model.specs.Snapshots.{cut_of}
-use Rattle.sv_model.proofs.NumberLaws.{one_entry}
 use Rattle.sv_laws.proofs.CutLaws.{cut-ascend, cut-now}
 use Rattle.sv_laws.proofs.Growing.{get-some, get_within}
 use Rattle.sv_laws.proofs.Items.{in-none, some}
@@ -51,7 +50,7 @@ use Rattle.sv_replies.specs.PurgeLaw.{Purges}
 use Rattle.sv_replies.specs.SnapLaw.{Snaps, StandsAt, Unsnaps}
 use Rattle.sv_replies.specs.ReplyFits.{ReplyFits, Shows}
 use Rattle.sv_replies.proofs.KnowsLaws.{over-later}
-use Rattle.sv_replies.proofs.Lasting.{captured-later, continues-length, count-later, dropped-later, end-later, goes_on-length, has-later, in-later, in-register, looks-later, look-later, named-later, of-later, output-later, written-later}
+use Rattle.sv_replies.proofs.Lasting.{captured-later, continues-length, count-later, dropped-later, end-later, goes_on-length, has-later, in-later, in-register, looks-later, look-later, named-later, of-later, one_family, output-later, written-later}
 use Rattle.sv_replies.proofs.Refusals.{refusal-later, some_and}
 
 module _ (s : Setting) (a b : Books) (k : Known) (knows : Knows a k) (law : Lawful a) (still : Lawful b) (after : After a b) where
@@ -134,17 +133,10 @@ module _ (s : Setting) (a b : Books) (k : Known) (knows : Knows a k) (law : Lawf
     gone = λ n has. has-later KeepsNumber (HasStatus n Gone) (HasStatus n Gone) (gone_keeps n) a.files.numbers b.files.numbers after.numbers (h.gone n has);
   }
 
-  -- a number is captured for one family
-  one_family : (n f g : ℕ) → WasCapturedFor b f n → WasCapturedFor b g n → f ≡ g
-  one_family n f g p q =
-      let same = one_entry b.files.numbers n p.0 q.0 p.1 q.1 (still.numbers.once n) p.2 q.2 p.3.number_is q.3.number_is in
-      let it : p.1 ≡ q.1 = some (sym p.2 ∙ subst (λ i. entry b.files.numbers p.0 ≡ entry b.files.numbers i) same refl ∙ q.2) in
-      some (sym p.3.family_is ∙ ap (λ (x : RegisteredFile). x.family) it ∙ q.3.family_is)
-
   back : (numbers : List ℕ) → Lives a k numbers → (f n : ℕ) → IsListedFor b numbers f n → WasCapturedFor a f n
   back numbers h f n l =
       let c = h.captured n l.listed in
-      subst (λ g. WasCapturedFor a g n) (one_family n c.0 f (captured-later a b c.0 n after c.2) l.captured) c.2
+      subst (λ g. WasCapturedFor a g n) (one_family b still.numbers.once n c.0 f (captured-later a b c.0 n after c.2) l.captured) c.2
 
   covers-old : (numbers : List ℕ) → Lives a k numbers → (f : ℕ) → CoversFamily a (k.families f).reached f numbers → CoversFamily b (k.families f).reached f numbers
   covers-old numbers h f c = record {
@@ -176,7 +168,7 @@ module _ (s : Setting) (a b : Books) (k : Known) (knows : Knows a k) (law : Lawf
       λ has. absurd (in-none n has),
       λ l.
           let c = h.captured n l.listed in
-          let same = one_family n c.0 f (captured-later a b c.0 n after c.2) l.captured in
+          let same = one_family b still.numbers.once n c.0 f (captured-later a b c.0 n after c.2) l.captured in
           let y = get-some a.families f (omega (arith, c.1, same)) in
           absurd (none_at (slice_get a.families f) y.0 none y.1),
     );

@@ -71,7 +71,7 @@ at_holds {A} P f at x each here n = ⊎_elim
     (λ other. subst (λ (y : A). P n y) (sym (at-other f at x n other.1)) (each n))
     (eqb_tells n at)
 
-unequal : (x y : List ℕ) → (bytes_eq x y ≡ true) ⊎ (bytes_eq x y ≡ false)
+pub unequal : (x y : List ℕ) → (bytes_eq x y ≡ true) ⊎ (bytes_eq x y ≡ false)
 unequal x y = at (bytes_eq x y) refl
   where
     at : (b : Bool) → bytes_eq x y ≡ b → (bytes_eq x y ≡ true) ⊎ (bytes_eq x y ≡ false)

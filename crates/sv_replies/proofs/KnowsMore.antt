@@ -68,7 +68,7 @@ knows-read b k f (reply.Found value cut sv) h shown = knows-both b k f cut sv h 
 knows-read b k f (reply.Absent cut sv) h shown = knows-both b k f cut sv h shown
 knows-read b k f r h shown = h
 
-max_below : (n m top : ℕ) → n < top → m < top → max n m < top
+pub max_below : (n m top : ℕ) → n < top → m < top → max n m < top
 max_below n m zero p q = absurd (omega (arith, p))
 max_below n m (suc top) p q =
     let most : max n m ≤ top = max-le (omega (arith, p)) (omega (arith, q)) in

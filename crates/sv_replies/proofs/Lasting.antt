@@ -17,6 +17,8 @@ use Rattle.sv_model.specs.Books.{Books, end_of}
 use Rattle.sv_model.specs.After.{After, Continues, KeepsMemtable, KeepsNumber, KeepsSuper, KeepsFamily}
 use Rattle.sv_model.specs.Reads.{IsWrite, IsWrittenAt, Serves, LooksAt, IsCapturedFor, IsOutput}
 use Rattle.sv_model.specs.Moments.{BeginsFrom, WasStalled, WasFlushed, ReachesTo, WereManyMemtables, WereManyLive, WereAllMade, WereAllNumbered, WasCapturedFor}
+use Rattle.sv_model.specs.Numbers.{registered}
+use Rattle.sv_model.proofs.NumberLaws.{one_entry}
 use Rattle.sv_model.proofs.Registers.{entry-old}
 use Rattle.sv_replies.specs.Standing.{IsAt, IsIn, IsNamed, IsOf, IsTaken, WasDropped}
 
@@ -180,6 +182,13 @@ reaches-later a b family upto file after h = record {
   covers = in-later file a.metas b.metas after.metas h.covers;
   reaches = h.reaches;
 }
+
+-- a number is captured for one family
+pub one_family : (b : Books) → ((n : ℕ) → registered n b.files.numbers ≤ 1) → (n f g : ℕ) → WasCapturedFor b f n → WasCapturedFor b g n → f ≡ g
+one_family b once n f g p q =
+    let same = one_entry b.files.numbers n p.0 q.0 p.1 q.1 (once n) p.2 q.2 p.3.number_is q.3.number_is in
+    let it : p.1 ≡ q.1 = same_item p.1 q.1 (sym p.2 ∙ subst (λ i. entry b.files.numbers p.0 ≡ entry b.files.numbers i) same refl ∙ q.2) in
+    same_item f g (sym p.3.family_is ∙ ap (λ (x : RegisteredFile). x.family) it ∙ q.3.family_is)
 
 -- ---- moments
 

@@ -9,6 +9,7 @@ pub mod GetsLaw
 pub mod Known
 pub mod Knows
 pub mod LanesFit
+pub mod Listed
 pub mod LiveLaw
 pub mod OpenLaw
 pub mod Outputs
