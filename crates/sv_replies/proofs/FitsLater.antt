@@ -1,5 +1,5 @@
 -- A reply that fits books fits all sound books that come after them.
-use Rattle.std.proofs.Common.{◌≡◌, ◌≤◌, ◌<◌, ◌+◌, ◌==◌, ◌⊎◌, inl, inr, ⊎_elim, ℕ, suc, Bool, true, false, List, [], ◌∷◌, ◌++◌, length, take, Option, Some, None, refl, sym, ◌∙◌, ap, subst, arith}
+use Rattle.std.proofs.Common.{◌≡◌, ◌≤◌, ◌<◌, ◌+◌, ◌==◌, ◌⊎◌, inl, inr, ⊎_elim, ℕ, suc, Bool, true, false, List, [], ◌∷◌, ◌++◌, length, take, drop, Option, Some, None, refl, sym, ◌∙◌, ap, subst, arith}
 use Rattle.std.specs.Prelude.{slice_get, IsSomeAnd}
 use Rattle.std.proofs.lemmas.List.{take-append-le, take-append-drop}
 use Rattle.sv_model.specs.declared.writes.Write.{Write}
@@ -7,6 +7,7 @@ use Rattle.sv_model.specs.declared.writes.Op.{Op}
 use Rattle.sv_model.specs.declared.writes.Op.TheVariants as op
 use Rattle.sv_model.specs.declared.records.Descriptor.{Descriptor}
 use Rattle.sv_model.specs.declared.records.Family.{Family}
+use Rattle.sv_model.specs.declared.records.FileMeta.{FileMeta}
 use Rattle.sv_model.specs.declared.records.FileStatus.TheVariants.{Gone}
 use Rattle.sv_model.specs.declared.records.RegisteredFile.{RegisteredFile}
 use Rattle.sv_model.specs.declared.records.SuperVersion.{SuperVersion}
@@ -15,12 +16,13 @@ use Rattle.sv_model.specs.declared.settings.OptionName.{OptionName}
 use Rattle.sv_model.specs.declared.refusals.Refusal.TheVariants as refusal
 use Rattle.sv_model.specs.After.{After, KeepsList, KeepsNumber, KeepsSnapshot, KeepsSuper, KeepsVersion}
 use Rattle.sv_model.specs.Books.{Books, end_of}
-use Rattle.sv_model.specs.Journal.{borne_by, by_lane, of_family}
+use Rattle.sv_model.specs.Journal.{borne_by, by_lane, newest_op, of_family, rows_of}
 use Rattle.sv_model.specs.Lawful.{Lawful}
 use Rattle.sv_model.specs.Lists.{In}
 use Rattle.sv_model.specs.Moments.{WasCapturedFor}
 use Rattle.sv_model.specs.Named.{numbers_of}
 use Rattle.sv_model.specs.Numbers.{HasStatus}
+use Rattle.sv_model.specs.Ranges.{reach_of}
 use Rattle.sv_model.specs.Registers.{entry, Has}
 use Rattle.sv_model.specs.Snapshots.{cut_of}
 use Rattle.sv_laws.proofs.CutLaws.{cut-ascend, cut-now}
@@ -35,6 +37,7 @@ use Rattle.sv_replies.specs.Known.{Known, Pinned}
 use Rattle.sv_replies.specs.Knows.{Knows, LastReaches}
 use Rattle.sv_replies.specs.Settings.{Setting}
 use Rattle.sv_replies.specs.Standing.{IsAt, IsIn}
+use Rattle.sv_replies.specs.Unread.{FindsUnread, IsFoundUnread, newest_unread}
 use Rattle.sv_replies.specs.PutLaw.{Writes}
 use Rattle.sv_replies.specs.GetLaw.{Gets}
 use Rattle.sv_replies.specs.GetpLaw.{EndsAt, GetsPinned}
@@ -50,7 +53,7 @@ use Rattle.sv_replies.specs.PurgeLaw.{Purges}
 use Rattle.sv_replies.specs.SnapLaw.{Snaps, StandsAt, Unsnaps}
 use Rattle.sv_replies.specs.ReplyFits.{ReplyFits, Shows}
 use Rattle.sv_replies.proofs.KnowsLaws.{over-later}
-use Rattle.sv_replies.proofs.Lasting.{captured-later, continues-length, count-later, dropped-later, end-later, goes_on-length, has-later, in-later, in-register, looks-later, look-later, named-later, of-later, one_family, output-later, written-later}
+use Rattle.sv_replies.proofs.Lasting.{captured-later, continues-length, count-later, dropped-later, end-later, goes_on-length, has-later, in-later, in-register, looks-later, look-later, named-later, of_family-later, of-later, one_family, output-later, written-later}
 use Rattle.sv_replies.proofs.Refusals.{refusal-later, some_and}
 
 module _ (s : Setting) (a b : Books) (k : Known) (knows : Knows a k) (law : Lawful a) (still : Lawful b) (after : After a b) where
@@ -62,12 +65,35 @@ module _ (s : Setting) (a b : Books) (k : Known) (knows : Knows a k) (law : Lawf
   writes : (key : List ℕ) (op : Op) (n f : ℕ) → Writes s a k key op n f → Writes s b k key op n f
   writes key op n f h = record { later = h.later; written = written-later a b s.lane f key op n after h.written }
 
+  -- what is found without a file
+  unread_keeps : (f : ℕ) (key : List ℕ) (found : Option (List ℕ)) (cut : ℕ) → cut ≤ length (of_family f a.journal) → (x y : SuperVersion) → KeepsSuper x y
+      → FindsUnread a f key found cut x → FindsUnread b f key found cut y
+  unread_keeps f key found cut few x y kept h =
+      let v = after.versions x.descriptor.version h.version h.at in
+      let whole : take cut (of_family f b.journal) ≡ take cut (of_family f a.journal) =
+      ap (take cut) (of_family-later a.journal b.journal f after.journal) ∙ take-append-le cut (of_family f a.journal) (of_family f after.journal.0) few in
+      let same : newest_unread b f key cut v.0 ≡ newest_unread a f key cut h.version =
+      ap (λ (z : List FileMeta). newest_op key (rows_of (drop (reach_of z) (take cut (of_family f b.journal))))) v.2.files
+      ∙ ap (λ (z : List Write). newest_op key (rows_of (drop (reach_of h.version.files) z))) whole in
+      record {
+        version = v.0;
+        at = ap (λ (d : Descriptor). entry b.versions d.version) kept.descriptor ∙ v.1;
+        above = λ o e. h.above o (sym same ∙ e);
+        alone = λ none. look-later a.journal b.journal f cut key after.journal few ∙ h.alone (sym v.2.files ∙ none);
+      }
+
+  unread : (f : ℕ) (key : List ℕ) (found : Option (List ℕ)) (cut sv : ℕ) → cut ≤ length (of_family f a.journal)
+      → IsFoundUnread a f key found cut sv → IsFoundUnread b f key found cut sv
+  unread f key found cut sv few h =
+      in-register KeepsSuper (FindsUnread a f key found cut) (FindsUnread b f key found cut) (unread_keeps f key found cut few) a.supers b.supers sv after.supers h
+
   gets : (key : List ℕ) (found : Option (List ℕ)) (cut sv f : ℕ) → Gets s a k key found cut sv f → Gets s b k key found cut sv f
   gets key found cut sv f h = record {
     later = h.later;
     newer = h.newer;
     within = omega (arith, h.within, grows f);
     looks = looks-later s.told a b f key found cut sv after h.within h.looks;
+    unread = unread f key found cut sv h.within h.unread;
   }
 
   -- where a SuperVersion ends whose active memtable is frozen
@@ -89,6 +115,7 @@ module _ (s : Setting) (a b : Books) (k : Known) (knows : Knows a k) (law : Lawf
     later = ⊎_elim (λ far. inl far) (λ at. inr (in-register KeepsSuper (EndsAt a cut) (EndsAt b cut) (ends_keeps cut) a.supers b.supers sv after.supers at)) h.later;
     within = omega (arith, h.within, grows p.family);
     looks = looks-later s.told a b p.family key found cut sv after h.within h.looks;
+    unread = unread p.family key found cut sv h.within h.unread;
   }
 
   through_keeps : (f cut : ℕ) (x y : SuperVersion) → KeepsSuper x y → EndsFrom a f cut x → EndsFrom b f cut y
@@ -114,6 +141,7 @@ module _ (s : Setting) (a b : Books) (k : Known) (knows : Knows a k) (law : Lawf
     through = in-register KeepsSuper (EndsFrom a f cut) (EndsFrom b f cut) (through_keeps f cut) a.supers b.supers sv after.supers h.through;
     cut_is = in-register KeepsSnapshot (CutsAt a f cut) (CutsAt b f cut) (cut_keeps f cut) a.snapshots b.snapshots n after.snapshots h.cut_is;
     found_is = λ is. look-later a.journal b.journal f cut key after.journal (cut_within f cut n h.cut_is) ∙ h.found_is is;
+    unread = unread f key found cut sv (cut_within f cut n h.cut_is) h.unread;
   }
 
   -- ---- files

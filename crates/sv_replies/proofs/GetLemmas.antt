@@ -24,6 +24,7 @@ use Rattle.sv_replies.specs.ReadReply.{read_reply}
 use Rattle.sv_replies.specs.ReplyFits.{ReplyFits}
 use Rattle.sv_replies.specs.Settings.{Setting}
 use Rattle.sv_replies.specs.Standing.{IsIn, IsOf}
+use Rattle.sv_replies.specs.Unread.{FindsUnread}
 use Rattle.sv_replies.proofs.KnowsMore.{ReadShows, ReadsWithin, knows-read, knows-touch, of_handle}
 use Rattle.sv_replies.proofs.Refusals.{through}
 
@@ -72,11 +73,12 @@ module _ (b : Books) (law : Lawful b) (f n : ℕ) (x : SuperVersion) (current : 
   current-reads = record { within = omega arith; of = (x, current.has, current-of) }
 
   pub current-gets : (s : Setting) (k : Known) (key : List ℕ) (found : Option (List ℕ)) → Knows b k
-      → (s.told ≡ true → look b.journal f (length (of_family f b.journal)) key ≡ found)
+      → (s.told ≡ true → look b.journal f (length (of_family f b.journal)) key ≡ found) → FindsUnread b f key found (length (of_family f b.journal)) x
       → Gets s b k key found (length (of_family f b.journal)) n f
-  current-gets s k key found knows looked = record {
+  current-gets s k key found knows looked unread = record {
     later = (knows.families f).seen;
     newer = current-newest k knows;
     within = omega arith;
     looks = record { serves = subst (λ z. IsSomeAnd z (Serves b f (length (of_family f b.journal)))) (sym current.has) serves; found_is = looked };
+    unread = (x, current.has, unread);
   }

@@ -54,7 +54,7 @@ keeps-all lane a b families holds journal = record {
 }
 
 -- a family keeps its name and the lane's handle
-placed_own : (lane : ℕ) (a b : List Family) (f : ℕ) (x y : Family) → IsPlaced a b f y → slice_get a f ≡ Some x → y.name ≡ x.name
+pub placed_own : (lane : ℕ) (a b : List Family) (f : ℕ) (x y : Family) → IsPlaced a b f y → slice_get a f ≡ Some x → y.name ≡ x.name
     → slice_get y.handles lane ≡ slice_get x.handles lane → (name : List ℕ) (g : ℕ) → Own lane name a g ↔ Own lane name b g
 placed_own lane a b f x y placed at named handle name g = elim (apart_or g f) [
   | inl here ↦ (
@@ -74,7 +74,7 @@ placed_own lane a b f x y placed at named handle name g = elim (apart_or g f) [
 -- ---- a write of the lane
 
 module _ (lane : ℕ) (a b : Books) (f : ℕ) (w : Write) (h : IsWritten a b f w) (mine : w.lane ≡ lane) where
-  lane-writes : by_lane lane b.journal ≡ by_lane lane a.journal ++ w ∷ []
+  pub lane-writes : by_lane lane b.journal ≡ by_lane lane a.journal ++ w ∷ []
   lane-writes =
       ap (λ (x : Books). by_lane lane x.journal) h.is ∙ filter-append (λ (z : Write). z.lane == lane) a.journal (w ∷ [])
       ∙ ap (λ q. by_lane lane a.journal ++ cond q (w ∷ []) []) (eq-eqb w.lane lane mine)
@@ -105,7 +105,7 @@ module _ (lane : ℕ) (handles : List ℕ → Option ℕ) (name : List ℕ) (o :
       (λ apart. ap (λ (q : Bool). if q then o else handles other) apart)
       (unequal other name)
 
-name_or : (x y : List ℕ) → (x ≡ y) ⊎ (x ≢ y)
+pub name_or : (x y : List ℕ) → (x ≡ y) ⊎ (x ≢ y)
 name_or x y = ⊎_elim
     (λ same. inl ((bytes_eq-Decides x y).0 same))
     (λ apart. inr (λ e. absurd (let q : true ≡ false = sym ((bytes_eq-Decides x y).1 e) ∙ apart in cc)))

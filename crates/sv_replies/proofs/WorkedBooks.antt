@@ -1,5 +1,5 @@
 -- What the books of worked rows are made of.
-use Rattle.std.specs.Prelude.{ℕ, Bool, true, false, List, [], ◌∷◌, Option, Some, None, replicate, codes}
+use Rattle.std.specs.Prelude.{◌≡◌, ℕ, Bool, true, false, List, [], ◌∷◌, Option, Some, None, replicate, codes}
 use Rattle.sv_model.specs.declared.writes.Op.{Op}
 use Rattle.sv_model.specs.declared.writes.Op.TheVariants as op
 use Rattle.sv_model.specs.declared.writes.Write.{Write}
@@ -71,3 +71,14 @@ numbers all next = record { numbers = all; captured = replicate 16 None; holds =
 
 abbrev pub family : List ℕ → Bool → Family
 family name dropped = record { name = name; options = first_options; dropped = dropped; handles = replicate 32 false }
+
+-- ---- what is not so
+
+pub no_op : (o : Op) → None ≡ Some o → ⊥
+no_op o e = absurd (cc)
+
+pub one_op : (p o : Op) → Some p ≡ Some o → p ≡ o
+one_op p o e = cc
+
+pub has_files : (f : FileMeta) (files : List FileMeta) → f ∷ files ≡ [] → ⊥
+has_files f files e = absurd (cc)

@@ -16,7 +16,7 @@ use Rattle.sv_replies.specs.Known.{at_first, known_after}
 use Rattle.sv_replies.specs.Due.{due, refuses, no_handle}
 use Rattle.sv_replies.specs.Standing.{IsNamed, WasDropped}
 use Rattle.sv_replies.specs.ReplyFits.{ReplyFits}
-use Rattle.sv_replies.proofs.WorkedBooks.{alone, first_of_two, home, cold, one, line, write, super, memtable, list, version, file, family, number_for, numbers}
+use Rattle.sv_replies.proofs.WorkedBooks.{alone, first_of_two, home, cold, one, line, write, super, memtable, list, version, file, family, number_for, numbers, has_files, no_op}
 
 abbrev k : List ℕ
 k = codes "k"
@@ -76,6 +76,7 @@ fits-get = (
     newer = omega arith;
     within = omega arith;
     looks = record { serves = record { family_is = refl; begins = omega arith; ends = omega arith }; found_is = λ told. refl };
+    unread = (super 1 3 4 3 1, refl, record { version = version (file 1 0 1 false [] ∷ []); at = refl; above = λ o e. absurd (no_op o e); alone = λ e. absurd (has_files (file 1 0 1 false []) [] e) });
   },
 )
 

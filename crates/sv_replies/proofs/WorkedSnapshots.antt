@@ -15,7 +15,7 @@ use Rattle.sv_script.specs.declared.replies.Reply.TheVariants as reply
 use Rattle.sv_replies.specs.Known.{FamilyKnown, known_after, nothing_known, saw}
 use Rattle.sv_replies.specs.ReplyFits.{ReplyFits}
 use Rattle.sv_replies.proofs.KnowsLaws.{at-other}
-use Rattle.sv_replies.proofs.WorkedBooks.{alone, first_of_two, home, a, one, line, write, super, memtable, list, version, file, number_for, numbers}
+use Rattle.sv_replies.proofs.WorkedBooks.{alone, first_of_two, home, a, one, line, write, super, memtable, list, version, file, number_for, numbers, has_files, no_op}
 
 abbrev rows : List Answered
 rows =
@@ -85,6 +85,7 @@ fits-gets = (
     through = (super 0 2 3 2 3, refl, record { family_is = refl; ends = omega arith });
     cut_is = (ended, refl, record { is = refl; within = omega arith });
     found_is = λ told. refl;
+    unread = (super 0 2 3 2 3, refl, record { version = version (flushed ∷ []); at = refl; above = λ o e. absurd (no_op o e); alone = λ e. absurd (has_files flushed [] e) });
   },
 )
 
@@ -97,6 +98,7 @@ fits-gets_after = (
     through = (super 0 2 3 3 3, refl, record { family_is = refl; ends = omega arith });
     cut_is = (ended, refl, record { is = refl; within = omega arith });
     found_is = λ told. refl;
+    unread = (super 0 2 3 3 3, refl, record { version = version (merged ∷ []); at = refl; above = λ o e. absurd (no_op o e); alone = λ e. absurd (has_files merged [] e) });
   },
 )
 

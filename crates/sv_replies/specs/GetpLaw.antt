@@ -8,6 +8,7 @@ use Rattle.sv_model.specs.Reads.{LooksAt}
 use Rattle.sv_model.specs.Registers.{Has}
 use Rattle.sv_replies.specs.Known.{Known, Pinned}
 use Rattle.sv_replies.specs.Settings.{Setting}
+use Rattle.sv_replies.specs.Unread.{IsFoundUnread}
 use Rattle.sv_replies.specs.Standing.{IsIn}
 
 -- the SuperVersion's active memtable is frozen since, and the cut is where it ends
@@ -21,3 +22,4 @@ pub record GetsPinned (s : Setting) (books : Books) (k : Known) (key : List ℕ)
   pub later : ((k.families pin.family).seen ≤ cut) ⊎ IsIn (EndsAt books cut) books.supers serial
   pub within : cut ≤ length (of_family pin.family books.journal)
   pub looks : LooksAt s.told books pin.family key found cut serial
+  pub unread : IsFoundUnread books pin.family key found cut serial

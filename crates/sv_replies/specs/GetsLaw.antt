@@ -9,6 +9,7 @@ use Rattle.sv_model.specs.Journal.{look}
 use Rattle.sv_model.specs.Snapshots.{cut_of}
 use Rattle.sv_replies.specs.Known.{Known}
 use Rattle.sv_replies.specs.Settings.{Setting}
+use Rattle.sv_replies.specs.Unread.{IsFoundUnread}
 use Rattle.sv_replies.specs.Standing.{IsIn}
 use Rattle.sv_replies.specs.GetLaw.{ReadMet}
 use Rattle.sv_replies.specs.SnapLaw.{MayUse, NoSuch}
@@ -30,6 +31,7 @@ pub record GetsAt (s : Setting) (books : Books) (k : Known) (snapshot : ℕ) (ke
   pub through : IsIn (EndsFrom books family cut) books.supers serial
   pub cut_is : IsIn (CutsAt books family cut) books.snapshots snapshot
   pub found_is : s.told ≡ true → look books.journal family cut key ≡ found
+  pub unread : IsFoundUnread books family key found cut serial
 
 -- what a refused read at a snapshot says of the books
 abbrev pub GetsMet : Setting → Books → Known → ℕ → Refusal → ℕ → Type 0

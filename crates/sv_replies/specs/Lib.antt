@@ -22,3 +22,5 @@ pub mod SetLaw
 pub mod Settings
 pub mod SnapLaw
 pub mod Standing
+pub mod Told
+pub mod Unread

@@ -1,24 +1,43 @@
 // Laws of replies, for all books.
-ghost use Rattle.std.specs.Prelude.{◌∷◌, ◌++◌, [], List};
+ghost use Rattle.std.specs.Prelude.{◌≡◌, ◌∷◌, ◌++◌, [], Bool, List, map};
 ghost use Rattle.sv_model.specs.After.{After};
 ghost use Rattle.sv_model.specs.Books.{Books};
+ghost use Rattle.sv_model.specs.Journal.{by_lane, change_of};
 ghost use Rattle.sv_model.specs.Lawful.{Lawful};
+ghost use Rattle.sv_model.specs.Lists.{Distinct, Every};
+ghost use Rattle.sv_model.specs.Openings.{IsOpening};
 ghost use Rattle.sv_script.specs.Answered.{Answered};
 ghost use Rattle.sv_script.specs.declared.commands.Command.{Command};
 ghost use Rattle.sv_script.specs.declared.replies.Reply.{Reply};
-ghost use Rattle.sv_replies.specs.Known.{Known, known_after};
+ghost use Rattle.sv_replies.specs.Known.{Known, known_after, learn};
 ghost use Rattle.sv_replies.specs.Knows.{Knows};
+ghost use Rattle.sv_replies.specs.LanesFit.{IsOfLanes, LanesFit, accepted, ended_of, purged_of};
 ghost use Rattle.sv_replies.specs.ReplyFits.{RepliesFit, ReplyFits};
 ghost use Rattle.sv_replies.specs.Settings.{Setting};
+ghost use Rattle.sv_replies.specs.Told.{Told};
 
-/// Where each reply so far fits the books, and one more fits them after these, each fits.
-pub fn replies_that_go_on()
-    ensures { (s : Setting) (books : Books) (all : List Answered) (a : Answered) → RepliesFit s books all
-        → ReplyFits s books (known_after all) a.command a.reply → RepliesFit s books (all ++ a ∷ []) }
+/// A lane that was told nothing yet knows no more than the books of an opening have.
+pub fn replies_that_begin()
+    ensures { (s : Setting) (b : Books) → IsOpening b → Told s b [] }
 {}
 
 /// A reply that fits lawful books, in which all is that the lane was told, fits all lawful books that come after.
 pub fn replies_that_last()
     ensures { (s : Setting) (a b : Books) (k : Known) → Knows a k → Lawful a → Lawful b → After a b
         → (command : Command) (reply : Reply) → ReplyFits s a k command reply → ReplyFits s b k command reply }
+{}
+
+/// What a lane was told stays so in all lawful books that come after, and goes on by a reply that fits them.
+pub fn replies_that_go_on()
+    ensures later { (s : Setting) (a b : Books) (all : List Answered) → Lawful a → Lawful b → After a b → Told s a all → Told s b all }
+    ensures push { (s : Setting) (a b : Books) (all : List Answered) (x : Answered) → Lawful a → Lawful b → After a b → Told s a all
+        → ReplyFits s b (known_after all) x.command x.reply → Knows b (learn (known_after all) x.command x.reply)
+        → Told s b (all ++ x ∷ []) }
+{}
+
+/// Where one lane is, its replies fit as those of all lanes.
+pub fn replies_of_one_lane()
+    ensures { (told : Bool) (b : Books) (all : List Answered) → RepliesFit (record { lane = 0; lanes = 1; told = told }) b all
+        → map change_of (by_lane 0 b.journal) ≡ accepted all → Every (IsOfLanes 1) b.journal
+        → Distinct (purged_of all) → Distinct (ended_of all) → LanesFit told b (all ∷ []) }
 {}
