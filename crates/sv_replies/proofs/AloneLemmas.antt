@@ -13,7 +13,7 @@ use Rattle.sv_laws.proofs.Growing.{get_within}
 use Rattle.sv_replies.specs.Known.{Known, with_at}
 use Rattle.sv_replies.specs.Knows.{AllAreOwn, OwnAre}
 use Rattle.sv_replies.specs.SnapLaw.{IsOver}
-use Rattle.sv_replies.specs.Standing.{IsIn}
+use Rattle.sv_replies.specs.Moments.{IsIn}
 use Rattle.sv_replies.proofs.KnowsLaws.{at-here, at-other}
 
 -- the snapshots and the holds stand, and the lane knows of no fewer snapshots

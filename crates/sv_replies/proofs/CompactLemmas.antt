@@ -25,9 +25,9 @@ use Rattle.sv_replies.specs.Knows.{Knows}
 use Rattle.sv_replies.specs.ReplyFits.{ReplyFits}
 use Rattle.sv_replies.specs.Settings.{Setting}
 use Rattle.sv_replies.proofs.KnowsLaws.{knows-later}
-use Rattle.sv_replies.proofs.KnowsMore.{knows-file, knows-merge, of_handle}
+use Rattle.sv_replies.proofs.LearnLaws.{knows-file, knows-merge, of_handle}
 use Rattle.sv_replies.proofs.OutputLemmas.{below-next, is-output, reaches}
-use Rattle.sv_replies.proofs.Refusals.{through}
+use Rattle.sv_replies.proofs.MetLaws.{through}
 
 -- the number is new to the lane
 pub merge-planned : (a b : Books) (f : ℕ) (file : FileMeta) (k : Known) → Knows a k → IsMergePlanned a b f file → k.file < file.number

@@ -17,9 +17,9 @@ use Rattle.sv_replies.specs.Known.{Known}
 use Rattle.sv_replies.specs.Knows.{Knows, OwnAre}
 use Rattle.sv_replies.specs.ReplyFits.{Met, ReplyFits}
 use Rattle.sv_replies.specs.Settings.{Setting}
-use Rattle.sv_replies.specs.Standing.{IsAt}
+use Rattle.sv_replies.specs.Moments.{IsAt}
 use Rattle.sv_replies.proofs.MomentLemmas.{none_stands}
-use Rattle.sv_replies.proofs.Refusals.{fits_due, fits_met}
+use Rattle.sv_replies.proofs.MetLaws.{fits_due, fits_met}
 
 -- ---- the first of causes
 

@@ -31,10 +31,10 @@ use Rattle.sv_replies.specs.PinLaw.{Pins}
 use Rattle.sv_replies.specs.ReplyFits.{ReplyFits}
 use Rattle.sv_replies.specs.SetLaw.{HasOption, Sets, value_of}
 use Rattle.sv_replies.specs.Settings.{Setting}
-use Rattle.sv_replies.specs.Standing.{IsIn, IsNamed, IsOf, WasDropped}
+use Rattle.sv_replies.specs.Moments.{IsIn, IsNamed, IsOf, WasDropped}
 use Rattle.sv_replies.proofs.KnowsLaws.{at_holds, handle_holds, knows-dropped, knows-later, knows-learns, unequal}
-use Rattle.sv_replies.proofs.KnowsMore.{knows-serial, knows-touch, max_below, of_handle}
-use Rattle.sv_replies.proofs.Refusals.{through}
+use Rattle.sv_replies.proofs.LearnLaws.{knows-serial, knows-touch, max_below, of_handle}
+use Rattle.sv_replies.proofs.MetLaws.{through}
 
 -- ---- handles
 

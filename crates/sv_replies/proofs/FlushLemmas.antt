@@ -19,13 +19,13 @@ use Rattle.sv_replies.specs.Due.{due}
 use Rattle.sv_replies.specs.FlushLaw.{Flushes}
 use Rattle.sv_replies.specs.Known.{Known, file_made, flushed_to, learn, learns}
 use Rattle.sv_replies.specs.Knows.{Knows}
-use Rattle.sv_replies.specs.Outputs.{IsPlannedFor}
+use Rattle.sv_replies.specs.PlannedFlush.{IsPlannedFor}
 use Rattle.sv_replies.specs.ReplyFits.{ReplyFits}
 use Rattle.sv_replies.specs.Settings.{Setting}
 use Rattle.sv_replies.proofs.KnowsLaws.{knows-later}
-use Rattle.sv_replies.proofs.KnowsMore.{knows-file, knows-flush, of_handle}
+use Rattle.sv_replies.proofs.LearnLaws.{knows-file, knows-flush, of_handle}
 use Rattle.sv_replies.proofs.OutputLemmas.{below-next, is-output, reach_of-push, reaches}
-use Rattle.sv_replies.proofs.Refusals.{through}
+use Rattle.sv_replies.proofs.MetLaws.{through}
 
 -- Begun once the active memtable is empty, the file covers all that the lane had seen, under a number that is new to it.
 pub flush-planned : (a b : Books) (f : ℕ) (file : FileMeta) (k : Known) → Sound a → Knows a k → (h : IsFlushBegun a b f file)

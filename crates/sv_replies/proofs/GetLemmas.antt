@@ -23,10 +23,10 @@ use Rattle.sv_replies.specs.GetLaw.{Gets}
 use Rattle.sv_replies.specs.ReadReply.{read_reply}
 use Rattle.sv_replies.specs.ReplyFits.{ReplyFits}
 use Rattle.sv_replies.specs.Settings.{Setting}
-use Rattle.sv_replies.specs.Standing.{IsIn, IsOf}
+use Rattle.sv_replies.specs.Moments.{IsIn, IsOf}
 use Rattle.sv_replies.specs.Unread.{FindsUnread}
-use Rattle.sv_replies.proofs.KnowsMore.{ReadShows, ReadsWithin, knows-read, knows-touch, of_handle}
-use Rattle.sv_replies.proofs.Refusals.{through}
+use Rattle.sv_replies.proofs.LearnLaws.{ReadShows, ReadsWithin, knows-read, knows-touch, of_handle}
+use Rattle.sv_replies.proofs.MetLaws.{through}
 
 -- a get that found this, at a cut and through a SuperVersion not before those that the lane was shown
 pub get-fits : (s : Setting) (b : Books) (k : Known) (name key : List ℕ) (f : ℕ) (found : Option (List ℕ)) (cut sv : ℕ)

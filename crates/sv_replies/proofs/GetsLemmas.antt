@@ -22,8 +22,8 @@ use Rattle.sv_replies.specs.Settings.{Setting}
 use Rattle.sv_replies.specs.SnapLaw.{MayUse}
 use Rattle.sv_replies.specs.Unread.{FindsUnread}
 use Rattle.sv_replies.proofs.GetLemmas.{current-ends, current-newest, current-of}
-use Rattle.sv_replies.proofs.KnowsMore.{ReadShows, knows-read}
-use Rattle.sv_replies.proofs.Refusals.{through}
+use Rattle.sv_replies.proofs.LearnLaws.{ReadShows, knows-read}
+use Rattle.sv_replies.proofs.MetLaws.{through}
 
 -- A read at the cut of a Live snapshot, through the current SuperVersion.
 pub current-gets_at : (b : Books) (law : Lawful b) (f sv : ℕ) (x : SuperVersion) (current : IsCurrent b.tops b.supers f sv x)

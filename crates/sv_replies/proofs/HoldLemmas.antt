@@ -16,7 +16,7 @@ use Rattle.sv_replies.specs.Knows.{Knows, OwnAre}
 use Rattle.sv_replies.specs.ReplyFits.{ReplyFits}
 use Rattle.sv_replies.specs.Settings.{Setting}
 use Rattle.sv_replies.proofs.KnowsLaws.{knows-later}
-use Rattle.sv_replies.proofs.KnowsMore.{knows-counts}
+use Rattle.sv_replies.proofs.LearnLaws.{knows-counts}
 
 item : (m n : ℕ) → Some m ≡ Some n → m ≡ n
 item m n e = cc

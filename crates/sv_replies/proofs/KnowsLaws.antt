@@ -14,9 +14,9 @@ use Rattle.sv_model.specs.Ranges.{reach_of}
 use Rattle.sv_model.specs.Registers.{entry}
 use Rattle.sv_replies.specs.Known.{FamilyKnown, Known, Pinned, as_dropped, flushed_to, learns, met, reached_to, saw, with_at, with_handle}
 use Rattle.sv_replies.specs.Knows.{Knows, KnowsFamily, LastReaches}
-use Rattle.sv_replies.specs.Standing.{IsAt, IsIn, IsNamed, IsOf, WasDropped}
+use Rattle.sv_replies.specs.Moments.{IsAt, IsIn, IsNamed, IsOf, WasDropped}
 use Rattle.sv_replies.specs.SnapLaw.{IsOver}
-use Rattle.sv_replies.proofs.Lasting.{continues-length, count-later, dropped-later, goes_on-length, in-register, named-later, of-later}
+use Rattle.sv_replies.proofs.AfterLemmas.{continues-length, count-later, dropped-later, goes_on-length, in-register, named-later, of-later}
 
 -- ---- as books go on
 

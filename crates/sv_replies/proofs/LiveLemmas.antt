@@ -25,7 +25,7 @@ use Rattle.sv_replies.specs.Listed.{AreCurrentFiles, IsCurrentFile, StandingHave
 use Rattle.sv_replies.specs.LiveLaw.{CoversFamily, IsListedFor, Lives}
 use Rattle.sv_replies.specs.ReplyFits.{ReplyFits}
 use Rattle.sv_replies.specs.Settings.{Setting}
-use Rattle.sv_replies.proofs.Lasting.{one_family}
+use Rattle.sv_replies.proofs.AfterLemmas.{one_family}
 use Rattle.sv_replies.proofs.MomentLemmas.{reached}
 
 -- the file of a number

@@ -24,7 +24,7 @@ use Rattle.sv_laws.proofs.OpenFamilies.{ends-at, last-files, member, of_f, says}
 use Rattle.sv_laws.proofs.StillFits.{join-le, join_reach}
 use Rattle.sv_replies.specs.Known.{Known}
 use Rattle.sv_replies.specs.Knows.{Knows}
-use Rattle.sv_replies.specs.Standing.{NamedAreDropped, WasMerged}
+use Rattle.sv_replies.specs.Moments.{NamedAreDropped, WasMerged}
 
 -- ---- counts
 

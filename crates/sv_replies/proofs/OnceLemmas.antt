@@ -16,9 +16,9 @@ use Rattle.sv_script.specs.Answered.{Answered}
 use Rattle.sv_laws.proofs.Items.{in_append}
 use Rattle.sv_replies.specs.LanesFit.{ended, ended_by, ended_of, purged, purged_by, purged_of}
 use Rattle.sv_replies.specs.SnapLaw.{IsOver}
-use Rattle.sv_replies.specs.Standing.{IsIn}
+use Rattle.sv_replies.specs.Moments.{IsIn}
 use Rattle.sv_replies.proofs.KnowsLaws.{over-later}
-use Rattle.sv_replies.proofs.Lasting.{has-later}
+use Rattle.sv_replies.proofs.AfterLemmas.{has-later}
 
 -- ---- lists without a number twice
 

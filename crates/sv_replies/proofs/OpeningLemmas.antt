@@ -12,7 +12,7 @@ use Rattle.sv_laws.proofs.Growing.{get_within}
 use Rattle.sv_laws.proofs.Items.{some}
 use Rattle.sv_replies.specs.Known.{at_first}
 use Rattle.sv_replies.specs.Knows.{AllAreOwn, Knows, OwnAre}
-use Rattle.sv_replies.specs.Standing.{IsAt, IsNamed}
+use Rattle.sv_replies.specs.Moments.{IsAt, IsNamed}
 use Rattle.sv_replies.proofs.KnowsLaws.{unequal}
 
 -- the one handle is that of `default`

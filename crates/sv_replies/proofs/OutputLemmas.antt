@@ -19,7 +19,7 @@ use Rattle.sv_laws.proofs.Settled.{marked-here}
 use Rattle.sv_laws.proofs.Growing.{placed-set}
 use Rattle.sv_laws.proofs.StillFits.{files-at}
 use Rattle.sv_replies.specs.Knows.{LastReaches}
-use Rattle.sv_replies.specs.Standing.{IsAt}
+use Rattle.sv_replies.specs.Moments.{IsAt}
 
 reach_from-push : (from : ℕ) (files : List FileMeta) (file : FileMeta) → reach_from from (files ++ file ∷ []) ≡ file.to
 reach_from-push from [] file = refl

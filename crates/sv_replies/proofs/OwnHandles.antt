@@ -15,7 +15,7 @@ use Rattle.sv_laws.proofs.Growing.{get-some, get_within, placed-push, placed-set
 use Rattle.sv_laws.proofs.Items.{some}
 use Rattle.sv_replies.specs.Known.{Known, as_dropped, has_handle, learns, with_handle}
 use Rattle.sv_replies.specs.Knows.{OwnAre}
-use Rattle.sv_replies.specs.Standing.{IsAt}
+use Rattle.sv_replies.specs.Moments.{IsAt}
 use Rattle.sv_replies.proofs.OwnLemmas.{KeepsOwn, name_or, own-handle, own-kept, placed_own, under-name, under-other}
 
 set_here : {A : Type 0} (l : List A) (n : ℕ) (x : A) → n < length l → slice_get (slice_set l n x) n ≡ Some x

@@ -17,7 +17,7 @@ use Rattle.sv_laws.proofs.Items.{some}
 use Rattle.sv_laws.specs.Growing.{IsPlaced}
 use Rattle.sv_replies.specs.Known.{Known, has_handle, learns, saw, with_handle, wrote}
 use Rattle.sv_replies.specs.Knows.{OwnAre}
-use Rattle.sv_replies.specs.Standing.{IsAt}
+use Rattle.sv_replies.specs.Moments.{IsAt}
 use Rattle.sv_replies.proofs.KnowsLaws.{unequal}
 use Rattle.sv_model.proofs.Basics.{apart_or}
 

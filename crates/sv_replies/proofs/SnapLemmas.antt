@@ -24,10 +24,10 @@ use Rattle.sv_replies.specs.ReadReply.{read_reply}
 use Rattle.sv_replies.specs.ReplyFits.{ReplyFits}
 use Rattle.sv_replies.specs.Settings.{Setting}
 use Rattle.sv_replies.specs.SnapLaw.{IsOver, MayUse, NoSuch, Snaps}
-use Rattle.sv_replies.specs.Standing.{IsIn, IsOf}
+use Rattle.sv_replies.specs.Moments.{IsIn, IsOf}
 use Rattle.sv_replies.proofs.KnowsLaws.{at_holds, knows-later}
-use Rattle.sv_replies.proofs.KnowsMore.{knows-serial, of_handle}
-use Rattle.sv_replies.proofs.Refusals.{through}
+use Rattle.sv_replies.proofs.LearnLaws.{knows-serial, of_handle}
+use Rattle.sv_replies.proofs.MetLaws.{through}
 
 -- ---- what is known
 

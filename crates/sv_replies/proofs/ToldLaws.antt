@@ -1,20 +1,27 @@
 -- What a lane was told stays so as the books go on, and goes on by one reply.
-use Rattle.std.proofs.Common.{◌≡◌, inl, inr, ℕ, zero, suc, List, [], ◌∷◌, ◌++◌, length, take, refl, sym, subst, arith}
+use Rattle.std.proofs.Common.{◌≡◌, ◌<◌, ◌≤◌, inl, inr, ℕ, zero, suc, List, [], ◌∷◌, ◌++◌, length, take, refl, sym, ◌∙◌, ap, subst, arith}
 use Rattle.std.proofs.lemmas.Bool.{cases_lt}
 use Rattle.std.proofs.lemmas.List.{length_push, take_all, take-append-le}
 use Rattle.sv_model.specs.After.{After}
 use Rattle.sv_model.specs.Books.{Books}
+use Rattle.sv_model.specs.Journal.{Change}
 use Rattle.sv_model.specs.Lawful.{Lawful}
+use Rattle.sv_model.specs.Openings.{opening_books}
 use Rattle.sv_laws.proofs.Items.{get_none}
+use Rattle.sv_laws.proofs.Opened.{first-opening}
 use Rattle.sv_script.specs.Answered.{Answered}
+use Rattle.sv_replies.specs.Answers.{Answers, KnowsAll}
 use Rattle.sv_replies.specs.Known.{Known, at_first, known_after, learn}
 use Rattle.sv_replies.specs.Knows.{Knows}
+use Rattle.sv_replies.specs.LanesFit.{change_asked}
 use Rattle.sv_replies.specs.ReplyFits.{ReplyFits}
 use Rattle.sv_replies.specs.Settings.{Setting}
-use Rattle.sv_replies.specs.Told.{Told}
-use Rattle.sv_replies.proofs.FitsLater.{fits-later}
+use Rattle.sv_replies.specs.Told.{LaneTold, Told}
+use Rattle.sv_replies.proofs.AcceptedLemmas.{accepted-push}
+use Rattle.sv_replies.proofs.OpeningLemmas.{first-alone, first-own, opening-knows}
+use Rattle.sv_replies.proofs.ReplyFitsLaws.{fits-later}
 use Rattle.sv_replies.proofs.KnowsLaws.{knows-later}
-use Rattle.sv_replies.proofs.RepliesGoOn.{known-push, replies-push}
+use Rattle.sv_replies.proofs.RepliesFitLaws.{known-push, replies-push}
 
 abbrev no_replies : List Answered
 no_replies = []
@@ -53,4 +60,24 @@ told-push s a b all x law still after told fits knows =
         | inr ge ↦
             subst (λ (l : List Answered). Knows b (known_after l)) (sym (take-append-le n all (x ∷ []) (omega (arith, ge)))) (later.knows n)
       ];
+    }
+
+-- ---- in the lane's own books
+
+pub lane_told-push : (s : Setting) (a b : Books) (all : List Answered) (x : Answered) → Lawful a → Lawful b → After a b → LaneTold s a all
+    → Answers s a b (known_after all) x.command x.reply → LaneTold s b (all ++ x ∷ [])
+lane_told-push s a b all x law still after told answers = record {
+  told = told-push s a b all x law still after told.told answers.fits answers.still.knows;
+  known = subst (λ (k : Known). KnowsAll s b k) (sym (known-push all x)) answers.still;
+  journal = answers.asked ∙ ap (λ (l : List Change). l ++ change_asked (known_after all) x.command x.reply) told.journal ∙ sym (accepted-push all x);
+}
+
+-- of a database that begins empty
+pub lane_told-none : (s : Setting) (next : ℕ) → s.lane < 32 → 1 ≤ next → next ≤ 18446744073709551615 → LaneTold s (opening_books next) []
+lane_told-none s next within least most =
+    let knows = opening-knows (opening_books next) (first-opening next least most) in
+    record {
+      told = told-none s (opening_books next) knows;
+      known = record { knows = knows; own = first-own next s.lane within; alone = λ one. first-alone next };
+      journal = refl;
     }

@@ -14,7 +14,7 @@ use Rattle.sv_script.specs.declared.commands.Command.TheVariants as command
 use Rattle.sv_script.specs.declared.replies.Reply.TheVariants as reply
 use Rattle.sv_replies.specs.Known.{at_first, known_after}
 use Rattle.sv_replies.specs.Due.{due, refuses, no_handle}
-use Rattle.sv_replies.specs.Standing.{IsNamed, WasDropped}
+use Rattle.sv_replies.specs.Moments.{IsNamed, WasDropped}
 use Rattle.sv_replies.specs.ReplyFits.{ReplyFits}
 use Rattle.sv_replies.proofs.WorkedBooks.{alone, first_of_two, home, cold, one, line, write, super, memtable, list, version, file, family, number_for, numbers, has_files, no_op}
 

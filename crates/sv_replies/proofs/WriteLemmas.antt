@@ -22,8 +22,8 @@ use Rattle.sv_replies.specs.PutLaw.{Writes}
 use Rattle.sv_replies.specs.ReplyFits.{ReplyFits}
 use Rattle.sv_replies.specs.Settings.{Setting}
 use Rattle.sv_replies.proofs.KnowsLaws.{knows-later}
-use Rattle.sv_replies.proofs.KnowsMore.{knows-wrote, of_handle}
-use Rattle.sv_replies.proofs.Refusals.{through}
+use Rattle.sv_replies.proofs.LearnLaws.{knows-wrote, of_handle}
+use Rattle.sv_replies.proofs.MetLaws.{through}
 
 module _ (a b : Books) (f : ℕ) (w : Write) (h : IsWritten a b f w) where
   family-is : of_family f b.journal ≡ of_family f a.journal ++ w ∷ []

@@ -12,7 +12,7 @@ use Rattle.sv_script.specs.declared.commands.Command.{Command}
 use Rattle.sv_script.specs.declared.commands.Command.TheVariants as command
 use Rattle.sv_replies.specs.Known.{Known, FamilyKnown, Pinned}
 use Rattle.sv_replies.specs.Settings.{Setting}
-use Rattle.sv_replies.specs.Standing.{IsTaken, NamedAreDropped}
+use Rattle.sv_replies.specs.Moments.{IsTaken, NamedAreDropped}
 
 -- what makes a refusal due
 pub data Cause : Type 0 where

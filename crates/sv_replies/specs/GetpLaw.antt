@@ -9,7 +9,7 @@ use Rattle.sv_model.specs.Registers.{Has}
 use Rattle.sv_replies.specs.Known.{Known, Pinned}
 use Rattle.sv_replies.specs.Settings.{Setting}
 use Rattle.sv_replies.specs.Unread.{IsFoundUnread}
-use Rattle.sv_replies.specs.Standing.{IsIn}
+use Rattle.sv_replies.specs.Moments.{IsIn}
 
 -- the SuperVersion's active memtable is frozen since, and the cut is where it ends
 pub record EndsAt (books : Books) (cut : ℕ) (s : SuperVersion) : Type 0 where

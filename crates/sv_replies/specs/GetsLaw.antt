@@ -10,7 +10,7 @@ use Rattle.sv_model.specs.Snapshots.{cut_of}
 use Rattle.sv_replies.specs.Known.{Known}
 use Rattle.sv_replies.specs.Settings.{Setting}
 use Rattle.sv_replies.specs.Unread.{IsFoundUnread}
-use Rattle.sv_replies.specs.Standing.{IsIn}
+use Rattle.sv_replies.specs.Moments.{IsIn}
 use Rattle.sv_replies.specs.GetLaw.{ReadMet}
 use Rattle.sv_replies.specs.SnapLaw.{MayUse, NoSuch}
 

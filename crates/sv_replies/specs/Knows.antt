@@ -8,7 +8,7 @@ use Rattle.sv_model.specs.Journal.{of_family, by_lane}
 use Rattle.sv_model.specs.Ranges.{reach_of}
 use Rattle.sv_model.specs.Registers.{entry}
 use Rattle.sv_replies.specs.Known.{Known, FamilyKnown, Pinned}
-use Rattle.sv_replies.specs.Standing.{IsAt, IsIn, IsNamed, IsOf, WasDropped}
+use Rattle.sv_replies.specs.Moments.{IsAt, IsIn, IsNamed, IsOf, WasDropped}
 use Rattle.sv_replies.specs.SnapLaw.{IsOver}
 
 -- the files of the last Version reach this write

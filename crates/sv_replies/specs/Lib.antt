@@ -1,3 +1,4 @@
+pub mod Answers
 pub mod CompactLaw
 pub mod CreateLaw
 pub mod DropLaw
@@ -6,14 +7,16 @@ pub mod FlushLaw
 pub mod GetLaw
 pub mod GetpLaw
 pub mod GetsLaw
+pub mod GetsSeeAll
 pub mod Known
 pub mod Knows
 pub mod LanesFit
 pub mod Listed
 pub mod LiveLaw
+pub mod Moments
 pub mod OpenLaw
-pub mod Outputs
 pub mod PinLaw
+pub mod PlannedFlush
 pub mod PurgeLaw
 pub mod PutLaw
 pub mod ReadReply
@@ -21,6 +24,5 @@ pub mod ReplyFits
 pub mod SetLaw
 pub mod Settings
 pub mod SnapLaw
-pub mod Standing
 pub mod Told
 pub mod Unread

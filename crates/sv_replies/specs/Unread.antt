@@ -7,7 +7,7 @@ use Rattle.sv_model.specs.Books.{Books}
 use Rattle.sv_model.specs.Journal.{look, newest_op, of_family, rows_of, value_of}
 use Rattle.sv_model.specs.Ranges.{reach_of}
 use Rattle.sv_model.specs.Registers.{entry}
-use Rattle.sv_replies.specs.Standing.{IsIn}
+use Rattle.sv_replies.specs.Moments.{IsIn}
 
 -- what the newest of the first `cut` writes of a key does, where it stands in no file of the SuperVersion
 abbrev pub newest_unread : Books → ℕ → List ℕ → ℕ → Version → Option Op

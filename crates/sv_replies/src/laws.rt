@@ -1,24 +1,26 @@
 // Laws of replies, for all books.
-ghost use Rattle.std.specs.Prelude.{◌≡◌, ◌∷◌, ◌++◌, [], Bool, List, map};
+ghost use Rattle.std.specs.Prelude.{◌≡◌, ◌<◌, ◌≤◌, ◌∷◌, ◌++◌, [], Bool, ℕ, List, map};
 ghost use Rattle.sv_model.specs.After.{After};
 ghost use Rattle.sv_model.specs.Books.{Books};
 ghost use Rattle.sv_model.specs.Journal.{by_lane, change_of};
 ghost use Rattle.sv_model.specs.Lawful.{Lawful};
 ghost use Rattle.sv_model.specs.Lists.{Distinct, Every};
-ghost use Rattle.sv_model.specs.Openings.{IsOpening};
+ghost use Rattle.sv_model.specs.Openings.{IsOpening, opening_books};
 ghost use Rattle.sv_script.specs.Answered.{Answered};
 ghost use Rattle.sv_script.specs.declared.commands.Command.{Command};
 ghost use Rattle.sv_script.specs.declared.replies.Reply.{Reply};
+ghost use Rattle.sv_replies.specs.Answers.{Answers};
 ghost use Rattle.sv_replies.specs.Known.{Known, known_after, learn};
 ghost use Rattle.sv_replies.specs.Knows.{Knows};
 ghost use Rattle.sv_replies.specs.LanesFit.{IsOfLanes, LanesFit, accepted, ended_of, purged_of};
 ghost use Rattle.sv_replies.specs.ReplyFits.{RepliesFit, ReplyFits};
 ghost use Rattle.sv_replies.specs.Settings.{Setting};
-ghost use Rattle.sv_replies.specs.Told.{Told};
+ghost use Rattle.sv_replies.specs.Told.{LaneTold, Told};
 
 /// A lane that was told nothing yet knows no more than the books of an opening have.
 pub fn replies_that_begin()
-    ensures { (s : Setting) (b : Books) → IsOpening b → Told s b [] }
+    ensures told { (s : Setting) (b : Books) → IsOpening b → Told s b [] }
+    ensures lane { (s : Setting) (next : ℕ) → s.lane < 32 → 1 ≤ next → next ≤ 18446744073709551615 → LaneTold s (opening_books next) [] }
 {}
 
 /// A reply that fits lawful books, in which all is that the lane was told, fits all lawful books that come after.
@@ -33,6 +35,8 @@ pub fn replies_that_go_on()
     ensures push { (s : Setting) (a b : Books) (all : List Answered) (x : Answered) → Lawful a → Lawful b → After a b → Told s a all
         → ReplyFits s b (known_after all) x.command x.reply → Knows b (learn (known_after all) x.command x.reply)
         → Told s b (all ++ x ∷ []) }
+    ensures lane { (s : Setting) (a b : Books) (all : List Answered) (x : Answered) → Lawful a → Lawful b → After a b → LaneTold s a all
+        → Answers s a b (known_after all) x.command x.reply → LaneTold s b (all ++ x ∷ []) }
 {}
 
 /// Where one lane is, its replies fit as those of all lanes.

@@ -7,7 +7,7 @@ use Rattle.sv_script.specs.declared.replies.Reply.{Reply}
 use Rattle.sv_script.specs.declared.replies.Reply.TheVariants as reply
 use Rattle.sv_replies.specs.Known.{Known, file_made, flushed_to, learns, met, reached_to, read, saw, touches, wrote}
 use Rattle.sv_replies.specs.Knows.{Knows, LastReaches}
-use Rattle.sv_replies.specs.Standing.{IsAt, IsIn, IsOf}
+use Rattle.sv_replies.specs.Moments.{IsAt, IsIn, IsOf}
 use Rattle.sv_replies.proofs.KnowsLaws.{knows-flushed, knows-learns, knows-met, knows-reached, knows-saw}
 
 -- counts that the books are not asked for

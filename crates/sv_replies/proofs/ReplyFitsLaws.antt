@@ -1,42 +1,35 @@
 -- A reply that fits books fits all sound books that come after them.
-use Rattle.std.proofs.Common.{◌≡◌, ◌≤◌, ◌<◌, ◌+◌, ◌==◌, ◌⊎◌, inl, inr, ⊎_elim, ℕ, suc, Bool, true, false, List, [], ◌∷◌, ◌++◌, length, take, drop, Option, Some, None, refl, sym, ◌∙◌, ap, subst, arith}
-use Rattle.std.specs.Prelude.{slice_get, IsSomeAnd}
-use Rattle.std.proofs.lemmas.List.{take-append-le, take-append-drop}
+use Rattle.std.proofs.Common.{◌≡◌, ◌≤◌, ◌<◌, ◌+◌, ◌==◌, ◌⊎◌, inl, inr, ⊎_elim, ℕ, List, ◌∷◌, ◌++◌, length, take, drop, Option, Some, None, sym, ◌∙◌, ap, subst, arith}
+use Rattle.std.proofs.lemmas.List.{take-append-le}
 use Rattle.sv_model.specs.declared.writes.Write.{Write}
 use Rattle.sv_model.specs.declared.writes.Op.{Op}
 use Rattle.sv_model.specs.declared.writes.Op.TheVariants as op
 use Rattle.sv_model.specs.declared.records.Descriptor.{Descriptor}
-use Rattle.sv_model.specs.declared.records.Family.{Family}
 use Rattle.sv_model.specs.declared.records.FileMeta.{FileMeta}
 use Rattle.sv_model.specs.declared.records.FileStatus.TheVariants.{Gone}
 use Rattle.sv_model.specs.declared.records.RegisteredFile.{RegisteredFile}
 use Rattle.sv_model.specs.declared.records.SuperVersion.{SuperVersion}
-use Rattle.sv_model.specs.declared.records.Top.{Top}
 use Rattle.sv_model.specs.declared.settings.OptionName.{OptionName}
-use Rattle.sv_model.specs.declared.refusals.Refusal.TheVariants as refusal
-use Rattle.sv_model.specs.After.{After, KeepsList, KeepsNumber, KeepsSnapshot, KeepsSuper, KeepsVersion}
+use Rattle.sv_model.specs.After.{After, KeepsList, KeepsNumber, KeepsSnapshot, KeepsSuper}
 use Rattle.sv_model.specs.Books.{Books, end_of}
 use Rattle.sv_model.specs.Journal.{borne_by, by_lane, newest_op, of_family, rows_of}
 use Rattle.sv_model.specs.Lawful.{Lawful}
 use Rattle.sv_model.specs.Lists.{In}
-use Rattle.sv_model.specs.Moments.{WasCapturedFor}
-use Rattle.sv_model.specs.Named.{numbers_of}
 use Rattle.sv_model.specs.Numbers.{HasStatus}
 use Rattle.sv_model.specs.Ranges.{reach_of}
 use Rattle.sv_model.specs.Registers.{entry, Has}
 use Rattle.sv_model.specs.Snapshots.{cut_of}
 use Rattle.sv_laws.proofs.CutLaws.{cut-ascend, cut-now}
-use Rattle.sv_laws.proofs.Growing.{get-some, get_within}
-use Rattle.sv_laws.proofs.Items.{in-none, some}
+use Rattle.sv_laws.proofs.Items.{some}
 use Rattle.sv_laws.proofs.SnapshotLaws.{cut-stays}
 use Rattle.sv_script.specs.declared.commands.Command.{Command}
 use Rattle.sv_script.specs.declared.commands.Command.TheVariants as command
 use Rattle.sv_script.specs.declared.replies.Reply.{Reply}
 use Rattle.sv_script.specs.declared.replies.Reply.TheVariants as reply
 use Rattle.sv_replies.specs.Known.{Known, Pinned}
-use Rattle.sv_replies.specs.Knows.{Knows, LastReaches}
+use Rattle.sv_replies.specs.Knows.{Knows}
 use Rattle.sv_replies.specs.Settings.{Setting}
-use Rattle.sv_replies.specs.Standing.{IsAt, IsIn}
+use Rattle.sv_replies.specs.Moments.{IsIn}
 use Rattle.sv_replies.specs.Unread.{FindsUnread, IsFoundUnread, newest_unread}
 use Rattle.sv_replies.specs.PutLaw.{Writes}
 use Rattle.sv_replies.specs.GetLaw.{Gets}
@@ -45,16 +38,15 @@ use Rattle.sv_replies.specs.GetsLaw.{CutsAt, EndsFrom, GetsAt}
 use Rattle.sv_replies.specs.FlushLaw.{Flushes}
 use Rattle.sv_replies.specs.CompactLaw.{Compacts}
 use Rattle.sv_replies.specs.CreateLaw.{Creates}
-use Rattle.sv_replies.specs.DropLaw.{Drops}
 use Rattle.sv_replies.specs.SetLaw.{HasOption, Sets, value_of}
 use Rattle.sv_replies.specs.PinLaw.{Pins}
-use Rattle.sv_replies.specs.LiveLaw.{CoversFamily, IsListedFor, Lives}
 use Rattle.sv_replies.specs.PurgeLaw.{Purges}
 use Rattle.sv_replies.specs.SnapLaw.{Snaps, StandsAt, Unsnaps}
 use Rattle.sv_replies.specs.ReplyFits.{ReplyFits, Shows}
 use Rattle.sv_replies.proofs.KnowsLaws.{over-later}
-use Rattle.sv_replies.proofs.Lasting.{captured-later, continues-length, count-later, dropped-later, end-later, goes_on-length, has-later, in-later, in-register, looks-later, look-later, named-later, of_family-later, of-later, one_family, output-later, written-later}
-use Rattle.sv_replies.proofs.Refusals.{refusal-later, some_and}
+use Rattle.sv_replies.proofs.AfterLemmas.{continues-length, count-later, dropped-later, end-later, has-later, in-register, looks-later, look-later, named-later, of_family-later, of-later, output-later, written-later}
+use Rattle.sv_replies.proofs.MetLaws.{refusal-later, some_and}
+use Rattle.sv_replies.proofs.LivesLaws.{lives-later}
 
 module _ (s : Setting) (a b : Books) (k : Known) (knows : Knows a k) (law : Lawful a) (still : Lawful b) (after : After a b) where
   grows : (f : ℕ) → length (of_family f a.journal) ≤ length (of_family f b.journal)
@@ -161,79 +153,6 @@ module _ (s : Setting) (a b : Books) (k : Known) (knows : Knows a k) (law : Lawf
     gone = λ n has. has-later KeepsNumber (HasStatus n Gone) (HasStatus n Gone) (gone_keeps n) a.files.numbers b.files.numbers after.numbers (h.gone n has);
   }
 
-  back : (numbers : List ℕ) → Lives a k numbers → (f n : ℕ) → IsListedFor b numbers f n → WasCapturedFor a f n
-  back numbers h f n l =
-      let c = h.captured n l.listed in
-      subst (λ g. WasCapturedFor a g n) (one_family b still.numbers.once n c.0 f (captured-later a b c.0 n after c.2) l.captured) c.2
-
-  covers-old : (numbers : List ℕ) → Lives a k numbers → (f : ℕ) → CoversFamily a (k.families f).reached f numbers → CoversFamily b (k.families f).reached f numbers
-  covers-old numbers h f c = record {
-    files = c.files;
-    exact = λ n. (
-      λ has. let l = (c.exact n).0 has in record { listed = l.listed; captured = captured-later a b f n after l.captured },
-      λ l. (c.exact n).1 (record { listed = l.listed; captured = back numbers h f n l }),
-    );
-    covers = λ file has. in-later file a.metas b.metas after.metas (c.covers file has);
-    to = c.to;
-    joins = c.joins;
-    far = c.far;
-  }
-
-  -- of a family that was made since nothing is listed and nothing is known
-  none_at : (o : Option Family) (x : Family) → o ≡ None → o ≡ Some x → ⊥
-  none_at o x none is = absurd (let e : None ≡ Some x = sym none ∙ is in cc)
-
-  unknown : (f : ℕ) → slice_get a.families f ≡ None → (k.families f).reached ≡ 0
-  unknown f none = ⊎_elim
-      (λ is. is)
-      (λ at. absurd (let y = get-some a.families f (omega (arith, get_within a.tops f at.0 at.1, law.paired)) in none_at (slice_get a.families f) y.0 none y.1))
-      (knows.families f).reached
-
-  covers-new : (numbers : List ℕ) → Lives a k numbers → (f : ℕ) → slice_get a.families f ≡ None → CoversFamily b (k.families f).reached f numbers
-  covers-new numbers h f none = record {
-    files = [];
-    exact = λ n. (
-      λ has. absurd (in-none n has),
-      λ l.
-          let c = h.captured n l.listed in
-          let same = one_family b still.numbers.once n c.0 f (captured-later a b c.0 n after c.2) l.captured in
-          let y = get-some a.families f (omega (arith, c.1, same)) in
-          absurd (none_at (slice_get a.families f) y.0 none y.1),
-    );
-    covers = λ file has. absurd (in-none file has);
-    to = 0;
-    joins = refl;
-    far = omega (arith, unknown f none);
-  }
-
-  stood : (o x : Family) → (o.dropped ≡ true → x.dropped ≡ true) → x.dropped ≡ false → o.dropped ≡ false
-  stood o x keeps stands = by o.dropped refl
-    where
-      by : (d : Bool) → o.dropped ≡ d → o.dropped ≡ false
-      by true is = absurd (let e : true ≡ false = sym (keeps is) ∙ stands in cc)
-      by false is = is
-
-  covers : (numbers : List ℕ) → Lives a k numbers → (f : ℕ) (x : Family) → slice_get b.families f ≡ Some x → x.dropped ≡ false → CoversFamily b (k.families f).reached f numbers
-  covers numbers h f x at stands = by (slice_get a.families f) refl
-    where
-      by : (o : Option Family) → slice_get a.families f ≡ o → CoversFamily b (k.families f).reached f numbers
-      by None is = covers-new numbers h f is
-      by (Some o) is =
-          let kept = after.families (suc f) o is in
-          let same : kept.0 ≡ x = some (sym kept.1 ∙ at) in
-          covers-old numbers h f (h.covers f o is (stood o kept.0 kept.2.dropped (ap (λ (y : Family). y.dropped) same ∙ stands)))
-
-  lives : (numbers : List ℕ) → Lives a k numbers → Lives b k numbers
-  lives numbers h = record {
-    rising = h.rising;
-    captured = λ n has.
-        let c = h.captured n has in
-        (c.0, omega (arith, c.1, goes_on-length _ a.families b.families after.families), captured-later a b c.0 n after c.2);
-    named = λ n has. has-later KeepsVersion (λ v. In n (numbers_of v.files)) (λ v. In n (numbers_of v.files))
-        (λ x y kept it. subst (λ z. In n (numbers_of z)) (sym kept.files) it) a.versions b.versions after.versions (h.named n has);
-    covers = covers numbers h;
-  }
-
   -- ---- families
 
   creates : (name : List ℕ) (id : ℕ) → Creates a k name id → Creates b k name id
@@ -290,7 +209,7 @@ module _ (s : Setting) (a b : Books) (k : Known) (knows : Knows a k) (law : Lawf
   shows-later (command.Unpin pin) reply.Unpin h = tt
   shows-later command.Hold (reply.Hold count) h = h
   shows-later command.Unhold (reply.Unhold count) h = h
-  shows-later command.Live (reply.Live numbers) h = lives numbers h
+  shows-later command.Live (reply.Live numbers) h = lives-later a b k knows law still after numbers h
   shows-later command.Purge (reply.Purge numbers) h = purges numbers h
   shows-later command.Scan (reply.Scan numbers) h = purges numbers h
   shows-later command.Rest (reply.Rest count) h = h

@@ -10,7 +10,7 @@ use Rattle.sv_script.specs.declared.commands.Command.TheVariants as command
 use Rattle.sv_script.specs.declared.replies.Reply.TheVariants as reply
 use Rattle.sv_replies.specs.Known.{Known, Pinned}
 use Rattle.sv_replies.specs.Settings.{Setting}
-use Rattle.sv_replies.specs.Standing.{NamedAreDropped, WasMerged, WereAllSnapped, WereManyFamilies, WereManySnapshots, WasJournalFull}
+use Rattle.sv_replies.specs.Moments.{NamedAreDropped, WasMerged, WereAllSnapped, WereManyFamilies, WereManySnapshots, WasJournalFull}
 use Rattle.sv_replies.specs.Due.{Cause, ComesOf, NoHandle, due, held, no_handle, refuses}
 use Rattle.sv_replies.specs.PutLaw.{WriteMet}
 use Rattle.sv_replies.specs.GetLaw.{ReadMet}
@@ -25,7 +25,7 @@ use Rattle.sv_replies.specs.PurgeLaw.{IsKnownNumber, PurgeMet, ScanMet}
 use Rattle.sv_replies.specs.SnapLaw.{NoSuch, SnapMet, UnsnapMet}
 use Rattle.sv_replies.specs.ReplyFits.{MayRunOut, Met, Refused, ReplyFits}
 use Rattle.sv_replies.proofs.KnowsLaws.{over-later}
-use Rattle.sv_replies.proofs.Lasting.{all_made-later, all_numbered-later, captured-later, continues-length, dropped-later, flushed-later, goes_on-length, has-later, many_live-later, many_memtables-later, reaches-later, stalled-later, taken-later}
+use Rattle.sv_replies.proofs.AfterLemmas.{all_made-later, all_numbered-later, captured-later, continues-length, dropped-later, flushed-later, goes_on-length, has-later, many_live-later, many_memtables-later, reaches-later, stalled-later, taken-later}
 
 -- ---- what is so of the item
 

@@ -16,7 +16,7 @@ pub known-push : (all : List Answered) (a : Answered) → known_after (all ++ a 
 known-push all a = fold-append (λ (k : Known) (x : Answered). learn k x.command x.reply) at_first all (a ∷ [])
 
 -- what holds of each place after the ones before it
-abbrev EachAfter : (List Answered → Answered → Type 0) → List Answered → Type 0
+abbrev pub EachAfter : (List Answered → Answered → Type 0) → List Answered → Type 0
 EachAfter P all = (n : ℕ) (a : Answered) → slice_get all n ≡ Some a → P (take n all) a
 
 some : (x y : Answered) → Some x ≡ Some y → x ≡ y
@@ -31,7 +31,7 @@ get-before [] x k lt = absurd (omega arith)
 get-before (a ∷ all) x zero lt = refl
 get-before (a ∷ all) x (suc k) lt = get-before all x k (omega arith)
 
-each-push : (P : List Answered → Answered → Type 0) (all : List Answered) (x : Answered) → EachAfter P all → P all x → EachAfter P (all ++ x ∷ [])
+pub each-push : (P : List Answered → Answered → Type 0) (all : List Answered) (x : Answered) → EachAfter P all → P all x → EachAfter P (all ++ x ∷ [])
 each-push P all x each here k a at = elim (cases_lt k (length all)) [
   | inl lt ↦ subst (λ z. P z a) (sym (take-append-le k all (x ∷ []) (omega arith))) (each k a (sym (get-before all x k lt) ∙ at))
   | inr ge ↦

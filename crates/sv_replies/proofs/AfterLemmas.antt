@@ -20,7 +20,7 @@ use Rattle.sv_model.specs.Moments.{BeginsFrom, WasStalled, WasFlushed, ReachesTo
 use Rattle.sv_model.specs.Numbers.{registered}
 use Rattle.sv_model.proofs.NumberLaws.{one_entry}
 use Rattle.sv_model.proofs.Registers.{entry-old}
-use Rattle.sv_replies.specs.Standing.{IsAt, IsIn, IsNamed, IsOf, IsTaken, WasDropped}
+use Rattle.sv_replies.specs.Moments.{IsAt, IsIn, IsNamed, IsOf, IsTaken, WasDropped}
 
 -- ---- registers
 
