@@ -1,11 +1,11 @@
 -- Where no other lane is: all snapshots and all holds stay the lane's own.
-use Rattle.std.proofs.Common.{◌≡◌, ◌≢◌, ◌<◌, ◌+◌, ◌⊎◌, inl, inr, ⊎_elim, ℕ, Bool, true, false, List, [], ◌∷◌, ◌++◌, length, get_or, Some, refl, sym, ◌∙◌, ap, subst, arith}
-use Rattle.std.specs.Prelude.{slice_get, slice_set, sum}
+use Rattle.std.proofs.Common.{◌≡◌, ◌≢◌, ◌+◌, ◌⊎◌, inl, inr, ⊎_elim, ℕ, Bool, true, false, List, length, Some, sym, ◌∙◌, ap, subst, arith}
+use Rattle.std.specs.Prelude.{slice_set, sum}
 use Rattle.std.proofs.lemmas.List.Sums.{sum_by-set}
 use Rattle.std.proofs.lemmas.Option.{get_or_from_slice_get}
 use Rattle.sv_model.specs.declared.records.Snapshot.{Snapshot}
 use Rattle.sv_model.specs.Books.{Books}
-use Rattle.sv_model.specs.Registers.{change, entry}
+use Rattle.sv_model.specs.Registers.{entry}
 use Rattle.sv_model.proofs.Basics.{apart_or}
 use Rattle.sv_model.proofs.Registers.{entry_change, entry_push}
 use Rattle.sv_laws.specs.Snapping.{IsSnapped, IsUnsnapped}

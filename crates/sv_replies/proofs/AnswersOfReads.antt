@@ -1,5 +1,5 @@
 -- Reads at a snapshot and through a pin, pins and rests that are answered.
-use Rattle.std.proofs.Common.{◌≡◌, ◌≤◌, ℕ, true, List, [], length, Option, Some, None, refl, sym, subst}
+use Rattle.std.proofs.Common.{◌≡◌, ◌≤◌, ℕ, List, [], length, Option, Some, None, refl, sym, subst}
 use Rattle.sv_model.specs.declared.records.Snapshot.{Snapshot}
 use Rattle.sv_model.specs.After.{After}
 use Rattle.sv_model.specs.Books.{Books}
@@ -11,7 +11,7 @@ use Rattle.sv_replies.specs.Answers.{Answers, KnowsAll}
 use Rattle.sv_replies.specs.Due.{due, free_pin}
 use Rattle.sv_replies.specs.GetpLaw.{GetsPinned}
 use Rattle.sv_replies.specs.GetsLaw.{GetsAt}
-use Rattle.sv_replies.specs.Known.{Known, Pinned, family_of_pin, learn, learns, met, pinned, read, read_at, touches, with_at}
+use Rattle.sv_replies.specs.Known.{Known, Pinned, family_of_pin, learn, learns, met, pinned, read, read_at, with_at}
 use Rattle.sv_replies.specs.LanesFit.{change_asked}
 use Rattle.sv_replies.specs.Moments.{IsIn, IsOf}
 use Rattle.sv_replies.specs.ReadReply.{read_reply}

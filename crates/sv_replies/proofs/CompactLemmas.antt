@@ -1,19 +1,15 @@
 -- A compaction: what its plan keeps until its end, why the reply then fits, and what the lane knows after it.
-use Rattle.std.proofs.Common.{◌≡◌, ◌<◌, ◌≤◌, ◌+◌, ⊎_elim, ℕ, true, List, [], ◌∷◌, ◌++◌, length, Some, None, refl, sym, ◌∙◌, ap, subst, arith}
+use Rattle.std.proofs.Common.{◌≡◌, ◌<◌, ◌≤◌, ◌+◌, ⊎_elim, ℕ, true, List, [], ◌∷◌, ◌++◌, length, Some, None, refl, ap, subst, arith}
 use Rattle.sv_model.specs.declared.records.FileMeta.{FileMeta}
-use Rattle.sv_model.specs.declared.records.Top.{Top}
-use Rattle.sv_model.specs.declared.records.Version.{Version}
 use Rattle.sv_model.specs.After.{After}
 use Rattle.sv_model.specs.Books.{Books, files_of}
 use Rattle.sv_model.specs.Described.{Describes}
 use Rattle.sv_model.specs.Ranges.{reach_of}
 use Rattle.sv_model.specs.Reads.{IsOutput}
-use Rattle.sv_model.specs.Registers.{entry}
 use Rattle.sv_model.specs.Steady.{IsMerge, Sound}
 use Rattle.sv_laws.specs.Captures.{IsMergePlanned}
 use Rattle.sv_laws.specs.NewCurrents.{IsCompacted}
 use Rattle.sv_laws.specs.Installs.{next_top}
-use Rattle.sv_laws.proofs.Items.{some}
 use Rattle.sv_laws.proofs.OpenFamilies.{last-files, says}
 use Rattle.sv_laws.proofs.Outputs.{is-merge, is-some}
 use Rattle.sv_script.specs.declared.commands.Command.TheVariants as command

@@ -1,5 +1,5 @@
 -- A snapshot that the lane ended stands among those that its replies show to be ended.
-use Rattle.std.proofs.Common.{◌≡◌, ◌≢◌, ◌⊎◌, inl, inr, ⊎_elim, ℕ, Bool, true, false, List, [], ◌∷◌, ◌++◌, drop, Option, Some, None, refl, sym, ◌∙◌, ap, subst}
+use Rattle.std.proofs.Common.{◌≡◌, ◌⊎◌, inl, inr, ⊎_elim, ℕ, true, false, List, [], ◌∷◌, drop, Option, Some, None, refl, sym, ◌∙◌, ap, subst}
 use Rattle.std.specs.Prelude.{fold, take}
 use Rattle.std.proofs.lemmas.List.{take-append-drop}
 use Rattle.std.proofs.lemmas.Grind.{flat_map-append}
@@ -11,7 +11,7 @@ use Rattle.sv_script.specs.declared.commands.Command.TheVariants as command
 use Rattle.sv_script.specs.declared.replies.Reply.{Reply}
 use Rattle.sv_script.specs.declared.replies.Reply.TheVariants as reply
 use Rattle.sv_laws.proofs.Items.{in-left, in-right}
-use Rattle.sv_replies.specs.Known.{FamilyKnown, Known, as_dropped, at_first, family_of_pin, flushed_to, known_after, learn, learns, met, pinned, reached_to, read, read_at, saw, touches, with_at, wrote}
+use Rattle.sv_replies.specs.Known.{FamilyKnown, Known, as_dropped, at_first, family_of_pin, flushed_to, known_after, learn, learns, met, pinned, reached_to, read, read_at, saw, touches, wrote}
 use Rattle.sv_replies.specs.LanesFit.{ended_by, ended_of}
 use Rattle.sv_replies.proofs.KnowsLaws.{at-other}
 

@@ -1,12 +1,11 @@
 -- Families are made, opened, released and dropped, options are set and SuperVersions pinned: why the replies fit, and
 -- what the lane then knows.
-use Rattle.std.proofs.Common.{◌≡◌, ◌<◌, ◌≤◌, ◌+◌, ◌==◌, ⊎_elim, ℕ, max, Bool, true, false, List, [], ◌∷◌, ◌++◌, length, Option, Some, None, refl, sym, ◌∙◌, ap, subst, arith}
+use Rattle.std.proofs.Common.{◌≡◌, ◌<◌, ◌≤◌, ◌+◌, ◌==◌, ⊎_elim, ℕ, max, Bool, true, List, length, Option, Some, None, refl, sym, ◌∙◌, ap, subst, arith}
 use Rattle.std.specs.Prelude.{slice_get, slice_set, if◌then◌else◌, bytes_eq}
 use Rattle.std.proofs.lemmas.List.{length_push}
 use Rattle.std.proofs.lemmas.Bool.Decides.{eqb_tells}
 use Rattle.std.proofs.lemmas.Slice.Eq.{bytes_eq-Decides}
 use Rattle.sv_model.specs.declared.records.Family.{Family}
-use Rattle.sv_model.specs.declared.records.SuperVersion.{SuperVersion}
 use Rattle.sv_model.specs.declared.settings.OptionName.{OptionName}
 use Rattle.sv_model.specs.declared.settings.Options.{Options}
 use Rattle.sv_model.specs.After.{After}
@@ -20,16 +19,14 @@ use Rattle.sv_laws.specs.NewCurrents.{IsFamilyMade, IsOptionSet}
 use Rattle.sv_laws.proofs.Growing.{placed-push, placed-set}
 use Rattle.sv_laws.proofs.OpenFamilies.{of_f}
 use Rattle.sv_script.specs.declared.commands.Command.TheVariants as command
-use Rattle.sv_script.specs.declared.replies.Reply.{Reply}
 use Rattle.sv_script.specs.declared.replies.Reply.TheVariants as reply
-use Rattle.sv_replies.specs.CreateLaw.{Creates}
 use Rattle.sv_replies.specs.DropLaw.{Drops}
 use Rattle.sv_replies.specs.Due.{due, free_pin}
-use Rattle.sv_replies.specs.Known.{Known, Pinned, as_dropped, has_handle, learn, learns, met, pinned, touches, with_at, with_handle}
+use Rattle.sv_replies.specs.Known.{Known, Pinned, as_dropped, has_handle, learn, learns, met, pinned, with_at, with_handle}
 use Rattle.sv_replies.specs.Knows.{Knows}
 use Rattle.sv_replies.specs.PinLaw.{Pins}
 use Rattle.sv_replies.specs.ReplyFits.{ReplyFits}
-use Rattle.sv_replies.specs.SetLaw.{HasOption, Sets, value_of}
+use Rattle.sv_replies.specs.SetLaw.{Sets, value_of}
 use Rattle.sv_replies.specs.Settings.{Setting}
 use Rattle.sv_replies.specs.Moments.{IsIn, IsNamed, IsOf, WasDropped}
 use Rattle.sv_replies.proofs.KnowsLaws.{at_holds, handle_holds, knows-dropped, knows-later, knows-learns, unequal}

@@ -1,10 +1,9 @@
 -- A flush: what its plan keeps until its end, why the reply then fits, and what the lane knows after it.
-use Rattle.std.proofs.Common.{◌≡◌, ◌<◌, ◌≤◌, ◌+◌, ℕ, Bool, true, false, List, [], ◌∷◌, ◌++◌, length, Some, None, refl, sym, ◌∙◌, ap, subst, arith}
+use Rattle.std.proofs.Common.{◌≡◌, ◌+◌, ℕ, true, false, List, [], ◌∷◌, ◌++◌, length, Some, None, refl, ap, subst, arith}
 use Rattle.sv_model.specs.declared.records.FileMeta.{FileMeta}
 use Rattle.sv_model.specs.After.{After}
 use Rattle.sv_model.specs.Books.{Books}
-use Rattle.sv_model.specs.Journal.{borne_by, of_family}
-use Rattle.sv_model.specs.Lists.{In}
+use Rattle.sv_model.specs.Journal.{borne_by}
 use Rattle.sv_model.specs.Reads.{IsOutput}
 use Rattle.sv_model.specs.Steady.{Sound}
 use Rattle.sv_laws.specs.Captures.{IsFlushBegun}

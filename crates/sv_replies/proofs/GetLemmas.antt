@@ -1,21 +1,18 @@
 -- A get that was answered: why the reply fits, and what the lane then knows. It leaves the books.
-use Rattle.std.proofs.Common.{◌≡◌, ◌≤◌, ◌⊎◌, ⊎_elim, ℕ, true, List, length, Option, Some, None, refl, sym, ◌∙◌, ap, subst, arith}
+use Rattle.std.proofs.Common.{◌≡◌, ◌≤◌, ⊎_elim, ℕ, true, List, length, Option, Some, None, sym, ◌∙◌, ap, subst, arith}
 use Rattle.std.specs.Prelude.{IsSomeAnd, slice_get}
-use Rattle.sv_model.specs.declared.records.Descriptor.{Descriptor}
 use Rattle.sv_model.specs.declared.records.SuperVersion.{SuperVersion}
 use Rattle.sv_model.specs.declared.records.Family.{Family}
 use Rattle.sv_model.specs.Books.{Books, end_of}
 use Rattle.sv_model.specs.Described.{IsTop}
 use Rattle.sv_model.specs.Journal.{look, of_family}
 use Rattle.sv_model.specs.Lawful.{Lawful}
-use Rattle.sv_model.specs.Reads.{LooksAt, Serves}
-use Rattle.sv_model.specs.Registers.{entry}
+use Rattle.sv_model.specs.Reads.{Serves}
 use Rattle.sv_model.specs.Steady.{IsCurrent}
 use Rattle.sv_laws.proofs.Items.{some}
 use Rattle.sv_laws.proofs.OpenFamilies.{current-top}
 use Rattle.sv_script.specs.declared.commands.Command.TheVariants as command
 use Rattle.sv_script.specs.declared.replies.Reply.{Reply}
-use Rattle.sv_script.specs.declared.replies.Reply.TheVariants as reply
 use Rattle.sv_replies.specs.Due.{due}
 use Rattle.sv_replies.specs.Known.{Known, learn, read}
 use Rattle.sv_replies.specs.Knows.{Knows}
@@ -23,7 +20,6 @@ use Rattle.sv_replies.specs.GetLaw.{Gets}
 use Rattle.sv_replies.specs.ReadReply.{read_reply}
 use Rattle.sv_replies.specs.ReplyFits.{ReplyFits}
 use Rattle.sv_replies.specs.Settings.{Setting}
-use Rattle.sv_replies.specs.Moments.{IsIn, IsOf}
 use Rattle.sv_replies.specs.Unread.{FindsUnread}
 use Rattle.sv_replies.proofs.LearnLaws.{ReadShows, ReadsWithin, knows-read, knows-touch, of_handle}
 use Rattle.sv_replies.proofs.MetLaws.{through}

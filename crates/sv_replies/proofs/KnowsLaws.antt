@@ -1,22 +1,18 @@
 -- What a lane was told stays within the books as they go on, and what one more answer adds is within them.
-use Rattle.std.proofs.Common.{◌≡◌, ◌≢◌, ◌≤◌, ◌<◌, ◌==◌, ◌⊎◌, inl, inr, ⊎_elim, ℕ, Bool, true, false, max, List, length, Option, Some, None, refl, sym, ◌∙◌, ap, subst, arith}
-use Rattle.std.specs.Prelude.{slice_get, if◌then◌else◌, bytes_eq}
+use Rattle.std.proofs.Common.{◌≡◌, ◌≢◌, ◌≤◌, ◌⊎◌, inl, inr, ⊎_elim, ℕ, Bool, true, false, max, List, length, Option, Some, refl, sym, ap, subst, arith}
+use Rattle.std.specs.Prelude.{if◌then◌else◌, bytes_eq}
 use Rattle.std.proofs.Math.Nat.{max-le, le-max_left, le-max_right}
 use Rattle.std.proofs.lemmas.Bool.{cases_lt}
 use Rattle.std.proofs.lemmas.Bool.Decides.{eqb_tells}
 use Rattle.std.proofs.lemmas.Slice.Eq.{bytes_eq-Decides}
-use Rattle.sv_model.specs.declared.records.Snapshot.{Snapshot}
-use Rattle.sv_model.specs.declared.records.Top.{Top}
 use Rattle.sv_model.specs.After.{After, KeepsSnapshot}
-use Rattle.sv_model.specs.Books.{Books, files_of}
+use Rattle.sv_model.specs.Books.{Books}
 use Rattle.sv_model.specs.Journal.{of_family}
-use Rattle.sv_model.specs.Ranges.{reach_of}
-use Rattle.sv_model.specs.Registers.{entry}
-use Rattle.sv_replies.specs.Known.{FamilyKnown, Known, Pinned, as_dropped, flushed_to, learns, met, reached_to, saw, with_at, with_handle}
+use Rattle.sv_replies.specs.Known.{FamilyKnown, Known, as_dropped, flushed_to, learns, met, reached_to, saw, with_at, with_handle}
 use Rattle.sv_replies.specs.Knows.{Knows, KnowsFamily, LastReaches}
-use Rattle.sv_replies.specs.Moments.{IsAt, IsIn, IsNamed, IsOf, WasDropped}
+use Rattle.sv_replies.specs.Moments.{IsAt, IsIn, IsOf, WasDropped}
 use Rattle.sv_replies.specs.SnapLaw.{IsOver}
-use Rattle.sv_replies.proofs.AfterLemmas.{continues-length, count-later, dropped-later, goes_on-length, in-register, named-later, of-later}
+use Rattle.sv_replies.proofs.AfterLemmas.{count-later, dropped-later, goes_on-length, in-register, named-later, of-later}
 
 -- ---- as books go on
 

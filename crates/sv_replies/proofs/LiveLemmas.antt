@@ -6,7 +6,7 @@ use Rattle.sv_model.specs.declared.records.FileMeta.{FileMeta}
 use Rattle.sv_model.specs.declared.records.SuperVersion.{SuperVersion}
 use Rattle.sv_model.specs.declared.records.Version.{Version}
 use Rattle.sv_model.specs.Books.{Books}
-use Rattle.sv_model.specs.Described.{Describes, IsFileOf}
+use Rattle.sv_model.specs.Described.{IsFileOf}
 use Rattle.sv_model.specs.Lists.{In}
 use Rattle.sv_model.specs.Moments.{WasCapturedFor}
 use Rattle.sv_model.specs.Named.{numbers_of}

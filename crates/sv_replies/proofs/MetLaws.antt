@@ -1,5 +1,5 @@
 -- Refused commands: when the reply fits, and that what a moment's books gave is so of all later ones.
-use Rattle.std.proofs.Common.{◌≡◌, ◌≤◌, ◌⊎◌, inl, inr, ⊎_elim, ℕ, true, false, List, length, Option, Some, None, refl, sym, ◌∙◌, subst, arith}
+use Rattle.std.proofs.Common.{◌≡◌, ◌≤◌, inl, inr, ⊎_elim, ℕ, List, length, Option, Some, None, refl, sym, ◌∙◌, subst, arith}
 use Rattle.std.specs.Prelude.{IsSomeAnd}
 use Rattle.sv_model.specs.declared.refusals.Refusal.{Refusal}
 use Rattle.sv_model.specs.declared.refusals.Refusal.TheVariants as refusal
@@ -10,14 +10,14 @@ use Rattle.sv_script.specs.declared.commands.Command.TheVariants as command
 use Rattle.sv_script.specs.declared.replies.Reply.TheVariants as reply
 use Rattle.sv_replies.specs.Known.{Known, Pinned}
 use Rattle.sv_replies.specs.Settings.{Setting}
-use Rattle.sv_replies.specs.Moments.{NamedAreDropped, WasMerged, WereAllSnapped, WereManyFamilies, WereManySnapshots, WasJournalFull}
+use Rattle.sv_replies.specs.Moments.{NamedAreDropped, WasMerged}
 use Rattle.sv_replies.specs.Due.{Cause, ComesOf, NoHandle, due, held, no_handle, refuses}
 use Rattle.sv_replies.specs.PutLaw.{WriteMet}
 use Rattle.sv_replies.specs.GetLaw.{ReadMet}
 use Rattle.sv_replies.specs.GetsLaw.{GetsMet}
 use Rattle.sv_replies.specs.FlushLaw.{FlushMet}
 use Rattle.sv_replies.specs.CompactLaw.{CompactMet}
-use Rattle.sv_replies.specs.CreateLaw.{CreateMet, MetWithout}
+use Rattle.sv_replies.specs.CreateLaw.{CreateMet}
 use Rattle.sv_replies.specs.OpenLaw.{OpenMet}
 use Rattle.sv_replies.specs.DropLaw.{DropMet}
 use Rattle.sv_replies.specs.SetLaw.{SetMet}

@@ -13,7 +13,7 @@ use Rattle.sv_script.specs.declared.replies.Reply.{Reply}
 use Rattle.sv_script.specs.declared.replies.Reply.TheVariants as reply
 use Rattle.sv_replies.specs.Due.{cause_where, due, first_of, no_handle, of_fault}
 use Rattle.sv_replies.specs.Known.{Known, known_after}
-use Rattle.sv_replies.specs.LanesFit.{IsOfLanes, LanesFit, accepted, ended, ended_of, missing_in, purged, purged_of}
+use Rattle.sv_replies.specs.LanesFit.{IsOfLanes, LanesFit, accepted, ended_of, missing_in, purged_of}
 use Rattle.sv_replies.specs.ReplyFits.{Refused, RepliesFit, ReplyFits}
 use Rattle.sv_replies.specs.Settings.{Setting}
 use Rattle.sv_replies.specs.SnapLaw.{NoSuch}

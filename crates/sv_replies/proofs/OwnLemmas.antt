@@ -1,21 +1,18 @@
 -- What the lane alone changes, in the books and in what it was told: its handles, its holds and its accepted writes.
-use Rattle.std.proofs.Common.{◌≡◌, ◌<◌, ◌≤◌, ◌+◌, ◌≢◌, ◌⊎◌, ◌↔◌, ◌==◌, inl, inr, ⊎_elim, ℕ, suc, Bool, true, false, cond, List, [], ◌∷◌, ◌++◌, length, Option, Some, None, refl, sym, ◌∙◌, ap, subst, arith, eq-eqb}
-use Rattle.std.specs.Prelude.{slice_get, slice_set, if◌then◌else◌, bytes_eq}
+use Rattle.std.proofs.Common.{◌≡◌, ◌+◌, ◌≢◌, ◌⊎◌, ◌↔◌, ◌==◌, inl, inr, ⊎_elim, ℕ, Bool, true, false, cond, List, [], ◌∷◌, ◌++◌, length, Option, Some, None, sym, ◌∙◌, ap, subst, eq-eqb}
+use Rattle.std.specs.Prelude.{slice_get, if◌then◌else◌}
 use Rattle.std.proofs.lemmas.List.{length_push}
 use Rattle.std.proofs.lemmas.List.Elements.{filter-append}
 use Rattle.std.proofs.lemmas.Slice.Eq.{bytes_eq-Decides}
 use Rattle.sv_model.specs.declared.records.Family.{Family}
 use Rattle.sv_model.specs.declared.writes.Write.{Write}
 use Rattle.sv_model.specs.Books.{Books}
-use Rattle.sv_model.specs.Families.{HasHandle, IsOwn}
+use Rattle.sv_model.specs.Families.{IsOwn}
 use Rattle.sv_model.specs.Journal.{by_lane}
-use Rattle.sv_laws.specs.Families.{IsDropped, IsOpened, IsReleased, IsRetired, released}
-use Rattle.sv_laws.specs.NewCurrents.{IsFamilyMade}
 use Rattle.sv_laws.specs.Writes.{IsWritten}
-use Rattle.sv_laws.proofs.Growing.{get_within, placed-push, placed-set}
 use Rattle.sv_laws.proofs.Items.{some}
 use Rattle.sv_laws.specs.Growing.{IsPlaced}
-use Rattle.sv_replies.specs.Known.{Known, has_handle, learns, saw, with_handle, wrote}
+use Rattle.sv_replies.specs.Known.{Known, has_handle, with_handle, wrote}
 use Rattle.sv_replies.specs.Knows.{OwnAre}
 use Rattle.sv_replies.specs.Moments.{IsAt}
 use Rattle.sv_replies.proofs.KnowsLaws.{unequal}

@@ -1,5 +1,5 @@
 -- A reply that fits books fits all sound books that come after them.
-use Rattle.std.proofs.Common.{◌≡◌, ◌≤◌, ◌<◌, ◌+◌, ◌==◌, ◌⊎◌, inl, inr, ⊎_elim, ℕ, List, ◌∷◌, ◌++◌, length, take, drop, Option, Some, None, sym, ◌∙◌, ap, subst, arith}
+use Rattle.std.proofs.Common.{◌≡◌, ◌≤◌, ◌+◌, inl, inr, ⊎_elim, ℕ, List, length, take, drop, Option, Some, None, sym, ◌∙◌, ap, subst, arith}
 use Rattle.std.proofs.lemmas.List.{take-append-le}
 use Rattle.sv_model.specs.declared.writes.Write.{Write}
 use Rattle.sv_model.specs.declared.writes.Op.{Op}
@@ -20,7 +20,6 @@ use Rattle.sv_model.specs.Ranges.{reach_of}
 use Rattle.sv_model.specs.Registers.{entry, Has}
 use Rattle.sv_model.specs.Snapshots.{cut_of}
 use Rattle.sv_laws.proofs.CutLaws.{cut-ascend, cut-now}
-use Rattle.sv_laws.proofs.Items.{some}
 use Rattle.sv_laws.proofs.SnapshotLaws.{cut-stays}
 use Rattle.sv_script.specs.declared.commands.Command.{Command}
 use Rattle.sv_script.specs.declared.commands.Command.TheVariants as command

@@ -1,17 +1,14 @@
 -- Snapshots are taken, read at and ended: why the replies fit, and what the lane then knows.
-use Rattle.std.proofs.Common.{◌≡◌, ◌<◌, ◌≤◌, ◌+◌, ◌⊎◌, ⊎_elim, ℕ, Bool, true, false, List, [], ◌∷◌, ◌++◌, length, take, Option, Some, None, refl, sym, ◌∙◌, ap, subst, arith}
+use Rattle.std.proofs.Common.{◌≡◌, ◌+◌, ℕ, Bool, true, false, List, length, take, Option, Some, None, refl, sym, ◌∙◌, ap, arith}
 use Rattle.std.proofs.lemmas.List.{take_all}
 use Rattle.sv_model.specs.declared.records.Snapshot.{Snapshot}
 use Rattle.sv_model.specs.declared.writes.Write.{Write}
-use Rattle.sv_model.specs.declared.refusals.Refusal.TheVariants as refusal
 use Rattle.sv_model.specs.After.{After}
 use Rattle.sv_model.specs.Books.{Books}
 use Rattle.sv_model.specs.Journal.{by_lane, of_family}
 use Rattle.sv_model.specs.Registers.{entry}
-use Rattle.sv_model.specs.Snapshots.{cut_of}
 use Rattle.sv_model.proofs.Registers.{entry-new, entry-same, entry_le}
 use Rattle.sv_laws.specs.Snapping.{IsSnapped, IsUnsnapped}
-use Rattle.sv_laws.proofs.CutLaws.{cut-now}
 use Rattle.sv_laws.proofs.Items.{some}
 use Rattle.sv_script.specs.declared.commands.Command.TheVariants as command
 use Rattle.sv_script.specs.declared.replies.Reply.{Reply}
@@ -23,7 +20,7 @@ use Rattle.sv_replies.specs.Knows.{AllAreOwn, Knows}
 use Rattle.sv_replies.specs.ReadReply.{read_reply}
 use Rattle.sv_replies.specs.ReplyFits.{ReplyFits}
 use Rattle.sv_replies.specs.Settings.{Setting}
-use Rattle.sv_replies.specs.SnapLaw.{IsOver, MayUse, NoSuch, Snaps}
+use Rattle.sv_replies.specs.SnapLaw.{IsOver, MayUse, NoSuch}
 use Rattle.sv_replies.specs.Moments.{IsIn, IsOf}
 use Rattle.sv_replies.proofs.KnowsLaws.{at_holds, knows-later}
 use Rattle.sv_replies.proofs.LearnLaws.{knows-serial, of_handle}

@@ -1,7 +1,6 @@
 -- What the books of worked rows are made of.
-use Rattle.std.specs.Prelude.{◌≡◌, ℕ, Bool, true, false, List, [], ◌∷◌, Option, Some, None, replicate, codes}
+use Rattle.std.specs.Prelude.{◌≡◌, ℕ, Bool, true, false, List, [], ◌∷◌, Some, None, replicate, codes}
 use Rattle.sv_model.specs.declared.writes.Op.{Op}
-use Rattle.sv_model.specs.declared.writes.Op.TheVariants as op
 use Rattle.sv_model.specs.declared.writes.Write.{Write}
 use Rattle.sv_model.specs.declared.records.SuperVersion.{SuperVersion}
 use Rattle.sv_model.specs.declared.records.Memtable.{Memtable}
@@ -11,7 +10,6 @@ use Rattle.sv_model.specs.declared.records.FileMeta.{FileMeta}
 use Rattle.sv_model.specs.declared.records.Family.{Family}
 use Rattle.sv_model.specs.declared.records.RegisteredFile.{RegisteredFile}
 use Rattle.sv_model.specs.declared.records.FileStatus.{FileStatus}
-use Rattle.sv_model.specs.declared.settings.Options.{Options}
 use Rattle.sv_model.specs.Books.{FileRegister}
 use Rattle.sv_model.specs.Families.{first_options}
 use Rattle.sv_script.specs.Answered.{Answered}

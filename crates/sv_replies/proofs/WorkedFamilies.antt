@@ -12,7 +12,7 @@ use Rattle.sv_model.specs.Families.{default_family}
 use Rattle.sv_script.specs.Answered.{Answered}
 use Rattle.sv_script.specs.declared.commands.Command.TheVariants as command
 use Rattle.sv_script.specs.declared.replies.Reply.TheVariants as reply
-use Rattle.sv_replies.specs.Known.{at_first, known_after}
+use Rattle.sv_replies.specs.Known.{known_after}
 use Rattle.sv_replies.specs.Due.{due, refuses, no_handle}
 use Rattle.sv_replies.specs.Moments.{IsNamed, WasDropped}
 use Rattle.sv_replies.specs.ReplyFits.{ReplyFits}

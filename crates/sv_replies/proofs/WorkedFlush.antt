@@ -1,5 +1,5 @@
 -- The laws tried on a put, gets and a flush of one key whose answers are known, and on answers that are wrong.
-use Rattle.std.proofs.Common.{◌≡◌, ℕ, true, false, List, [], ◌∷◌, Some, None, refl, sym, ap, ◌∙◌, arith, take, inr}
+use Rattle.std.proofs.Common.{◌≡◌, false, List, [], ◌∷◌, Some, None, refl, sym, ap, ◌∙◌, arith, take, inr}
 use Rattle.std.specs.Prelude.{codes, replicate}
 use Rattle.sv_model.specs.declared.writes.Op.TheVariants as op
 use Rattle.sv_model.specs.declared.refusals.Refusal.TheVariants as refusal

@@ -1,5 +1,5 @@
 -- What a command does to what a lane knows, whichever command it is.
-use Rattle.std.specs.Prelude.{◌≡◌, ◌++◌, ℕ, true, List, map}
+use Rattle.std.specs.Prelude.{◌≡◌, ◌++◌, map}
 use Rattle.sv_model.specs.Books.{Books}
 use Rattle.sv_model.specs.Journal.{by_lane, change_of}
 use Rattle.sv_script.specs.declared.commands.Command.{Command}

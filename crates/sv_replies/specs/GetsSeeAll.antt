@@ -1,5 +1,5 @@
 -- Where one lane is, each get looks at just the writes that were accepted before it.
-use Rattle.std.specs.Prelude.{◌≡◌, ◌==◌, ℕ, List, length, filter, take, slice_get, Option, Some, IsSomeAnd}
+use Rattle.std.specs.Prelude.{◌≡◌, ◌==◌, ℕ, List, length, filter, take, slice_get, Some, IsSomeAnd}
 use Rattle.sv_model.specs.Journal.{Change}
 use Rattle.sv_script.specs.Answered.{Answered}
 use Rattle.sv_script.specs.declared.commands.Command.{Command}
