@@ -25,7 +25,8 @@ changes-push (a ∷ all) k x =
     ap (λ z. change_asked k a.command a.reply ++ z) (changes-push all (learn k a.command a.reply) x)
     ∙ sym (append_assoc (change_asked k a.command a.reply) (changes_from (learn k a.command a.reply) all) (change_asked (fold (λ l a. learn l a.command a.reply) (learn k a.command a.reply) all) x.command x.reply))
 
-pub accepted-push : (all : List Answered) (x : Answered) → accepted (all ++ x ∷ []) ≡ accepted all ++ change_asked (known_after all) x.command x.reply
+pub accepted-push : (all : List Answered) (x : Answered)
+    → accepted (all ++ x ∷ []) ≡ accepted all ++ change_asked (known_after all) x.command x.reply
 accepted-push all x = changes-push all at_first x
 
 -- a refused command asks for no write
@@ -35,7 +36,8 @@ asks-none k (command.Delete name key) e = refl
 asks-none k c e = refl
 
 -- a command that asks for none leaves the accepted writes
-pub accepted-same : (all : List Answered) (x : Answered) → change_asked (known_after all) x.command x.reply ≡ [] → accepted (all ++ x ∷ []) ≡ accepted all
+pub accepted-same : (all : List Answered) (x : Answered) → change_asked (known_after all) x.command x.reply ≡ []
+    → accepted (all ++ x ∷ []) ≡ accepted all
 accepted-same all x none = accepted-push all x ∙ ap (λ z. accepted all ++ z) none ∙ append-nil (accepted all)
 
 module _ (lane : ℕ) (a b : Books) (f : ℕ) (w : Write) (h : IsWritten a b f w) (all : List Answered) (key : List ℕ) (o : Op) (is : IsWrite lane key o w)

@@ -17,7 +17,8 @@ use Rattle.sv_replies.specs.Moments.{IsIn}
 use Rattle.sv_replies.proofs.KnowsLaws.{at-here, at-other}
 
 -- the snapshots and the holds stand, and the lane knows of no fewer snapshots
-pub alone-kept : (a b : Books) (k l : Known) → b.snapshots ≡ a.snapshots → b.files.holds ≡ a.files.holds → l.holds ≡ k.holds
+pub alone-kept : (a b : Books) (k l : Known) → b.snapshots ≡ a.snapshots → b.files.holds ≡ a.files.holds
+    → l.holds ≡ k.holds
     → ((n : ℕ) → k.snapshots n ≡ true → l.snapshots n ≡ true) → l.ended ≡ k.ended → AllAreOwn a k → AllAreOwn b l
 alone-kept a b k l snapshots holds own more ended h = record {
   taken = λ n x at. more n (h.taken n x (ap (λ (s : List Snapshot). entry s n) (sym snapshots) ∙ at));
@@ -51,7 +52,8 @@ alone-snap a b k n h number own = record {
   holds = ap (λ (x : Books). sum x.files.holds) h.is ∙ own.holds;
 }
   where
-    pushed : (m : ℕ) (x : Snapshot) → entry b.snapshots m ≡ Some x → (entry a.snapshots m ≡ Some x) ⊎ ((m ≡ length a.snapshots + 1) × (x ≡ record { at = length a.journal; live = true }))
+    pushed : (m : ℕ) (x : Snapshot) → entry b.snapshots m ≡ Some x
+        → (entry a.snapshots m ≡ Some x) ⊎ ((m ≡ length a.snapshots + 1) × (x ≡ record { at = length a.journal; live = true }))
     pushed m x at = entry_push a.snapshots (record { at = length a.journal; live = true }) m x (ap (λ (z : Books). entry z.snapshots m) (sym h.is) ∙ at)
 
 -- ---- and ended
@@ -70,13 +72,15 @@ alone-unsnap a b k n x h own = record {
   holds = ap (λ (z : Books). sum z.files.holds) h.is ∙ own.holds;
 }
   where
-    changed : (m : ℕ) (y : Snapshot) → entry b.snapshots m ≡ Some y → ((m ≡ n) × (y ≡ record x { live = false })) ⊎ ((m ≢ n) × (entry a.snapshots m ≡ Some y))
+    changed : (m : ℕ) (y : Snapshot) → entry b.snapshots m ≡ Some y
+        → ((m ≡ n) × (y ≡ record x { live = false })) ⊎ ((m ≢ n) × (entry a.snapshots m ≡ Some y))
     changed m y at = entry_change a.snapshots n m (record x { live = false }) y (ap (λ (z : Books). entry z.snapshots m) (sym h.is) ∙ at)
 
 -- ---- a hold begins or ends
 
 pub alone-hold : (lane : ℕ) (a b : Books) (k : Known) (count : ℕ) → OwnAre lane a k → AllAreOwn a k
-    → b ≡ record a { files = record a.files { holds = slice_set a.files.holds lane count } } → AllAreOwn b (record k { holds = count })
+    → b ≡ record a { files = record a.files { holds = slice_set a.files.holds lane count } }
+    → AllAreOwn b (record k { holds = count })
 alone-hold lane a b k count mine own is = record {
   taken = λ n x at. own.taken n x (ap (λ (z : Books). entry z.snapshots n) (sym is) ∙ at);
   over = λ n over. own.over n (over.0, ap (λ (z : Books). entry z.snapshots n) (sym is) ∙ over.1, over.2);

@@ -52,14 +52,16 @@ pub record KeepsAll (lane : ℕ) (a b : Books) : Type 0 where
   pub snapshots : b.snapshots ≡ a.snapshots
   pub holds : b.files.holds ≡ a.files.holds
 
-pub keeps-books : (lane : ℕ) (a b : Books) → b.families ≡ a.families → b.files.holds ≡ a.files.holds → b.journal ≡ a.journal
+pub keeps-books : (lane : ℕ) (a b : Books) → b.families ≡ a.families → b.files.holds ≡ a.files.holds
+    → b.journal ≡ a.journal
     → b.snapshots ≡ a.snapshots → KeepsAll lane a b
 keeps-books lane a b families holds journal snapshots = record { own = keeps-all lane a b families holds journal; snapshots = snapshots; holds = holds }
 
 pub keeps-same : (lane : ℕ) (a : Books) → KeepsAll lane a a
 keeps-same lane a = keeps-books lane a a refl refl refl refl
 
-pub all-kept : (s : Setting) (a b : Books) (k l : Known) → KeepsAll s.lane a b → SameOwn k l → Knows b l → KnowsAll s a k → KnowsAll s b l
+pub all-kept : (s : Setting) (a b : Books) (k l : Known) → KeepsAll s.lane a b → SameOwn k l → Knows b l
+    → KnowsAll s a k → KnowsAll s b l
 all-kept s a b k l keeps same knows h = record {
   knows = knows;
   own = own-kept s.lane a b k l keeps.own same.handles same.holds same.accepted h.own;
@@ -70,7 +72,8 @@ pub same-known : (k : Known) → SameOwn k k
 same-known k = record { handles = refl; holds = refl; accepted = refl; ended = refl; snapshots = λ n e. e }
 
 -- a command that asks for no write
-pub none-asked : (s : Setting) (a b : Books) (k : Known) (c : Command) (r : Reply) → by_lane s.lane b.journal ≡ by_lane s.lane a.journal → change_asked k c r ≡ []
+pub none-asked : (s : Setting) (a b : Books) (k : Known) (c : Command) (r : Reply)
+    → by_lane s.lane b.journal ≡ by_lane s.lane a.journal → change_asked k c r ≡ []
     → map change_of (by_lane s.lane b.journal) ≡ map change_of (by_lane s.lane a.journal) ++ change_asked k c r
 none-asked s a b k c r same none =
     ap (map change_of) same ∙ sym (append-nil (map change_of (by_lane s.lane a.journal))) ∙ ap (λ (z : List Change). map change_of (by_lane s.lane a.journal) ++ z) (sym none)
@@ -93,7 +96,8 @@ refused-knows b k (command.Pin name) e h = knows-touch b k (k.handles name) h
 refused-knows b k command.Rest e h = knows-counts b k [] k.accepted k.holds h
 refused-knows b k c e h = h
 
-pub refused-answers : (s : Setting) (a b : Books) (k : Known) (c : Command) (e : Refusal) → KnowsAll s a k → After a b → KeepsAll s.lane a b
+pub refused-answers : (s : Setting) (a b : Books) (k : Known) (c : Command) (e : Refusal) → KnowsAll s a k → After a b
+    → KeepsAll s.lane a b
     → ReplyFits s b k c (reply.Refused e) → Answers s a b k c (reply.Refused e)
 refused-answers s a b k c e h after keeps fits = record {
   fits = fits;
@@ -104,7 +108,8 @@ refused-answers s a b k c e h after keeps fits = record {
 -- ---- writes
 
 module _ (s : Setting) (a b : Books) (k : Known) (f : ℕ) (w : Write) (h : KnowsAll s a k) (after : After a b) (is : IsWritten a b f w) where
-  knows-written : (o : Option ℕ) (n : ℕ) → o ≡ Some f → w.lane ≡ s.lane → Knows b (wrote o n k) → KnowsAll s b (wrote o n k)
+  knows-written : (o : Option ℕ) (n : ℕ) → o ≡ Some f → w.lane ≡ s.lane → Knows b (wrote o n k)
+      → KnowsAll s b (wrote o n k)
   knows-written o n has mine knows = record {
     knows = knows;
     own = own-write s.lane a b f w is mine k o n has h.own;
@@ -119,8 +124,10 @@ module _ (s : Setting) (a b : Books) (k : Known) (f : ℕ) (w : Write) (h : Know
       ∙ ap (λ (z : Change). map change_of (by_lane s.lane a.journal) ++ z ∷ []) (λ i. record { family = is.family_is i; key = at.key_is i; op = at.op_is i })
       ∙ ap (λ (z : Option ℕ). map change_of (by_lane s.lane a.journal) ++ change_in z key o) (sym has)
 
-  pub put-answers : (name key value : List ℕ) (n : ℕ) → k.handles name ≡ Some f → due k (command.Put name key value) ≡ None
-      → IsWrite s.lane key (op.Put value) w → n ≡ length (of_family f b.journal) → Answers s a b k (command.Put name key value) (reply.Put n)
+  pub put-answers : (name key value : List ℕ) (n : ℕ) → k.handles name ≡ Some f
+      → due k (command.Put name key value) ≡ None
+      → IsWrite s.lane key (op.Put value) w → n ≡ length (of_family f b.journal)
+      → Answers s a b k (command.Put name key value) (reply.Put n)
   put-answers name key value n has none at number = record {
     fits = put-fits a b f w is s k name key value n h.knows has none at number;
     still = knows-written (k.handles name) n has at.lane_is (put-knows a b f w is k name key value n after h.knows has number);
@@ -128,7 +135,8 @@ module _ (s : Setting) (a b : Books) (k : Known) (f : ℕ) (w : Write) (h : Know
   }
 
   pub delete-answers : (name key : List ℕ) (n : ℕ) → k.handles name ≡ Some f → due k (command.Delete name key) ≡ None
-      → IsWrite s.lane key op.Delete w → n ≡ length (of_family f b.journal) → Answers s a b k (command.Delete name key) (reply.Delete n)
+      → IsWrite s.lane key op.Delete w → n ≡ length (of_family f b.journal)
+      → Answers s a b k (command.Delete name key) (reply.Delete n)
   delete-answers name key n has none at number = record {
     fits = delete-fits a b f w is s k name key n h.knows has none at number;
     still = knows-written (k.handles name) n has at.lane_is (delete-knows a b f w is k name key n after h.knows has number);
@@ -151,14 +159,17 @@ same-on k l m p q = record {
   snapshots = λ n e. q.snapshots n (p.snapshots n e);
 }
 
-get-same : (k : Known) (name key : List ℕ) (f : ℕ) (r : Reply) → k.handles name ≡ Some f → SameOwn k (learn k (command.Get name key) r)
+get-same : (k : Known) (name key : List ℕ) (f : ℕ) (r : Reply) → k.handles name ≡ Some f
+    → SameOwn k (learn k (command.Get name key) r)
 get-same k name key f r has =
     same-on k (read (k.handles name) r k) (touches (k.handles name) (read (k.handles name) r k))
     (of_handle (λ z. SameOwn k (read z r k)) (k.handles name) f has (read-same k f r))
     (touch-same (read (k.handles name) r k) (k.handles name))
 
-pub get-answers : (s : Setting) (a b : Books) (k : Known) (name key : List ℕ) (f : ℕ) (found : Option (List ℕ)) (cut sv : ℕ) → KnowsAll s a k → After a b → KeepsAll s.lane a b
-    → k.handles name ≡ Some f → due k (command.Get name key) ≡ None → Gets s b k key found cut sv f → IsIn (IsOf f) b.supers sv
+pub get-answers : (s : Setting) (a b : Books) (k : Known) (name key : List ℕ) (f : ℕ) (found : Option (List ℕ)) (cut sv : ℕ)
+    → KnowsAll s a k → After a b → KeepsAll s.lane a b
+    → k.handles name ≡ Some f → due k (command.Get name key) ≡ None → Gets s b k key found cut sv f
+    → IsIn (IsOf f) b.supers sv
     → Answers s a b k (command.Get name key) (read_reply found cut sv)
 get-answers s a b k name key f found cut sv h after keeps has none gets of = record {
   fits = get-fits s b k name key f found cut sv has none gets;
@@ -173,7 +184,8 @@ get-answers s a b k name key f found cut sv h after keeps has none gets of = rec
 
 -- ---- flushes and compactions end
 
-learnt-same : (k : Known) (more : FamilyKnown → FamilyKnown) (f number : ℕ) → SameOwn k (file_made number (learns more (Some f) k))
+learnt-same : (k : Known) (more : FamilyKnown → FamilyKnown) (f number : ℕ)
+    → SameOwn k (file_made number (learns more (Some f) k))
 learnt-same k more f number = record { handles = refl; holds = refl; accepted = refl; ended = refl; snapshots = λ n e. e }
 
 module _ (s : Setting) (a b : Books) (k : Known) (f : ℕ) (file : FileMeta) (sound : Sound a) (h : KnowsAll s a k) (after : After a b) (name : List ℕ) (has : k.handles name ≡ Some f) where

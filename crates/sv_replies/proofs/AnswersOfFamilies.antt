@@ -35,7 +35,8 @@ use Rattle.sv_replies.proofs.AnswersLaws.{KeepsAll, SameOwn, all-kept, none-aske
 -- ---- families
 
 module _ (s : Setting) (a b : Books) (k : Known) (h : KnowsAll s a k) (after : After a b) (name : List ℕ) where
-  pub create-answers : (r : Family) (id : ℕ) → IsFamilyMade a b r → IsOwn s.lane name r → k.handles name ≡ None → id ≡ length a.families
+  pub create-answers : (r : Family) (id : ℕ) → IsFamilyMade a b r → IsOwn s.lane name r → k.handles name ≡ None
+      → id ≡ length a.families
       → Answers s a b k (command.Create name) (reply.Create id)
   create-answers r id is own free number = record {
     fits = create-fits a b r is s k name id h.knows own.name_is free number;
@@ -48,7 +49,8 @@ module _ (s : Setting) (a b : Books) (k : Known) (h : KnowsAll s a k) (after : A
     asked = none-asked s a b k (command.Create name) (reply.Create id) (ap (λ (x : Books). by_lane s.lane x.journal) is.is) refl;
   }
 
-  pub open-answers : (f : ℕ) (is : IsOpened a b f s.lane) → is.it.name ≡ name → s.lane < length is.it.handles → k.handles name ≡ None
+  pub open-answers : (f : ℕ) (is : IsOpened a b f s.lane) → is.it.name ≡ name → s.lane < length is.it.handles
+      → k.handles name ≡ None
       → due k (command.Open name) ≡ None → Answers s a b k (command.Open name) (reply.Open f)
   open-answers f is named within free none = record {
     fits = open-fits a b f s.lane is s k name named none;
@@ -61,8 +63,10 @@ module _ (s : Setting) (a b : Books) (k : Known) (h : KnowsAll s a k) (after : A
   }
 
   -- whether the family is retired by it or not
-  pub release-answers : (f : ℕ) (it : Family) → slice_get a.families f ≡ Some it → slice_get it.handles s.lane ≡ Some true → it.name ≡ name
-      → b.families ≡ slice_set a.families f (released it s.lane) → b.files.holds ≡ a.files.holds → b.journal ≡ a.journal → b.snapshots ≡ a.snapshots
+  pub release-answers : (f : ℕ) (it : Family) → slice_get a.families f ≡ Some it
+      → slice_get it.handles s.lane ≡ Some true → it.name ≡ name
+      → b.families ≡ slice_set a.families f (released it s.lane) → b.files.holds ≡ a.files.holds
+      → b.journal ≡ a.journal → b.snapshots ≡ a.snapshots
       → due k (command.Release name) ≡ None → Answers s a b k (command.Release name) reply.Release
   release-answers f it at handle named families holds journal snapshots none = record {
     fits = release-fits s b k name none;
@@ -87,7 +91,8 @@ module _ (s : Setting) (a b : Books) (k : Known) (h : KnowsAll s a k) (after : A
     asked = none-asked s a b k (command.Drop name) reply.Drop (ap (λ (x : Books). by_lane s.lane x.journal) is.is) refl;
   }
 
-  pub set-answers : (f : ℕ) (o : Options) (option : OptionName) (value sv : ℕ) → Sound a → IsOptionSet a b f o → k.handles name ≡ Some f
+  pub set-answers : (f : ℕ) (o : Options) (option : OptionName) (value sv : ℕ) → Sound a → IsOptionSet a b f o
+      → k.handles name ≡ Some f
       → due k (command.Set name option value) ≡ None → value_of option o ≡ value → sv ≡ length a.supers + 1
       → Answers s a b k (command.Set name option value) (reply.Set sv)
   set-answers f o option value sv sound is has none at number = record {
@@ -117,7 +122,8 @@ module _ (s : Setting) (a b : Books) (k : Known) (h : KnowsAll s a k) (after : A
     asked = none-asked s a b k command.Hold (reply.Hold count) (ap (λ (x : Books). by_lane s.lane x.journal) is) refl;
   }
 
-  pub unhold-answers : count + 1 ≡ before → due k command.Unhold ≡ None → Answers s a b k command.Unhold (reply.Unhold count)
+  pub unhold-answers : count + 1 ≡ before → due k command.Unhold ≡ None
+      → Answers s a b k command.Unhold (reply.Unhold count)
   unhold-answers less none = record {
     fits = unhold-fits s a b k before count h.own at less none;
     still = held;
@@ -127,21 +133,24 @@ module _ (s : Setting) (a b : Books) (k : Known) (h : KnowsAll s a k) (after : A
 -- ---- lists of files: what the lane knows is the same
 
 module _ (s : Setting) (a b : Books) (k : Known) (h : KnowsAll s a k) (after : After a b) (keeps : KeepsAll s.lane a b) (numbers : List ℕ) where
-  pub live-answers : ReplyFits s b k command.Live (reply.Live numbers) → Answers s a b k command.Live (reply.Live numbers)
+  pub live-answers : ReplyFits s b k command.Live (reply.Live numbers)
+      → Answers s a b k command.Live (reply.Live numbers)
   live-answers fits = record {
     fits = fits;
     still = all-kept s a b k k keeps (same-known k) (knows-later a b k after h.knows) h;
     asked = none-asked s a b k command.Live (reply.Live numbers) keeps.own.writes refl;
   }
 
-  pub purge-answers : ReplyFits s b k command.Purge (reply.Purge numbers) → Answers s a b k command.Purge (reply.Purge numbers)
+  pub purge-answers : ReplyFits s b k command.Purge (reply.Purge numbers)
+      → Answers s a b k command.Purge (reply.Purge numbers)
   purge-answers fits = record {
     fits = fits;
     still = all-kept s a b k k keeps (same-known k) (knows-later a b k after h.knows) h;
     asked = none-asked s a b k command.Purge (reply.Purge numbers) keeps.own.writes refl;
   }
 
-  pub scan-answers : ReplyFits s b k command.Scan (reply.Scan numbers) → Answers s a b k command.Scan (reply.Scan numbers)
+  pub scan-answers : ReplyFits s b k command.Scan (reply.Scan numbers)
+      → Answers s a b k command.Scan (reply.Scan numbers)
   scan-answers fits = record {
     fits = fits;
     still = all-kept s a b k k keeps (same-known k) (knows-later a b k after h.knows) h;
@@ -163,7 +172,8 @@ snap-answers s a b k n at h after is number end = record {
   asked = none-asked s a b k command.Snap (reply.Snap n at) (ap (λ (x : Books). by_lane s.lane x.journal) is.is) refl;
 }
 
-pub unsnap-answers : (s : Setting) (a b : Books) (k : Known) (n : ℕ) (x : Snapshot) → KnowsAll s a k → After a b → IsUnsnapped a b n x
+pub unsnap-answers : (s : Setting) (a b : Books) (k : Known) (n : ℕ) (x : Snapshot) → KnowsAll s a k → After a b
+    → IsUnsnapped a b n x
     → Answers s a b k (command.Unsnap n) reply.Unsnap
 unsnap-answers s a b k n x h after is = record {
   fits = unsnap-fits a b n x is s k h.knows h.alone;

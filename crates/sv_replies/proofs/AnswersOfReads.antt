@@ -31,13 +31,16 @@ read_at-same k n f (reply.Found value cut sv) = record { handles = refl; holds =
 read_at-same k n f (reply.Absent cut sv) = record { handles = refl; holds = refl; accepted = refl; ended = refl; snapshots = λ m e. still_true k.snapshots n m e }
 read_at-same k n f r = record { handles = refl; holds = refl; accepted = refl; ended = refl; snapshots = λ m e. e }
 
-shows-serial : (b : Books) (f : ℕ) (found : Option (List ℕ)) (cut sv : ℕ) → IsIn (IsOf f) b.supers sv → ShowsSerial b f (read_reply found cut sv)
+shows-serial : (b : Books) (f : ℕ) (found : Option (List ℕ)) (cut sv : ℕ) → IsIn (IsOf f) b.supers sv
+    → ShowsSerial b f (read_reply found cut sv)
 shows-serial b f (Some value) cut sv of = of
 shows-serial b f None cut sv of = of
 
 module _ (s : Setting) (a b : Books) (k : Known) (h : KnowsAll s a k) (after : After a b) (keeps : KeepsAll s.lane a b) where
-  pub gets-answers : (n : ℕ) (x : Snapshot) (name key : List ℕ) (f : ℕ) (found : Option (List ℕ)) (cut sv : ℕ) → k.handles name ≡ Some f
-      → due k (command.Gets n name key) ≡ None → GetsAt s b k n key found cut sv f → entry b.snapshots n ≡ Some x → IsIn (IsOf f) b.supers sv
+  pub gets-answers : (n : ℕ) (x : Snapshot) (name key : List ℕ) (f : ℕ) (found : Option (List ℕ)) (cut sv : ℕ)
+      → k.handles name ≡ Some f
+      → due k (command.Gets n name key) ≡ None → GetsAt s b k n key found cut sv f → entry b.snapshots n ≡ Some x
+      → IsIn (IsOf f) b.supers sv
       → Answers s a b k (command.Gets n name key) (read_reply found cut sv)
   gets-answers n x name key f found cut sv has none gets at of = record {
     fits = gets-fits s b k n name key f found cut sv has none gets;
@@ -69,7 +72,8 @@ module _ (s : Setting) (a b : Books) (k : Known) (h : KnowsAll s a k) (after : A
   pinned-same : (f pin sv : ℕ) → SameOwn k (pinned (Some f) pin sv (learns (met sv) (Some f) k))
   pinned-same f pin sv = record { handles = refl; holds = refl; accepted = refl; ended = refl; snapshots = λ m e. e }
 
-  pub pin-answers : (name : List ℕ) (f pin sv : ℕ) → k.handles name ≡ Some f → due k (command.Pin name) ≡ None → free_pin k ≡ Some pin
+  pub pin-answers : (name : List ℕ) (f pin sv : ℕ) → k.handles name ≡ Some f → due k (command.Pin name) ≡ None
+      → free_pin k ≡ Some pin
       → (k.families f).serial ≤ sv → IsIn (IsOf f) b.supers sv → Answers s a b k (command.Pin name) (reply.Pin pin sv)
   pin-answers name f pin sv has none least newer of = record {
     fits = pin-fits s b k name f pin sv has none least newer of;

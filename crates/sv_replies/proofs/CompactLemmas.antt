@@ -26,7 +26,8 @@ use Rattle.sv_replies.proofs.OutputLemmas.{below-next, is-output, reaches}
 use Rattle.sv_replies.proofs.MetLaws.{through}
 
 -- the number is new to the lane
-pub merge-planned : (a b : Books) (f : ℕ) (file : FileMeta) (k : Known) → Knows a k → IsMergePlanned a b f file → k.file < file.number
+pub merge-planned : (a b : Books) (f : ℕ) (file : FileMeta) (k : Known) → Knows a k → IsMergePlanned a b f file
+    → k.file < file.number
 merge-planned a b f file k knows h = omega (arith, h.captured.number_is, knows.file)
 
 module _ (a b : Books) (f : ℕ) (file : FileMeta) (sound : Sound a) (h : IsCompacted a b f file) where
@@ -64,7 +65,8 @@ module _ (a b : Books) (f : ℕ) (file : FileMeta) (sound : Sound a) (h : IsComp
     output = subst (λ z. IsOutput b f z) file_is output;
   }
 
-  pub compact-fits : (s : Setting) (k : Known) (name : List ℕ) → Knows a k → k.file < file.number → k.handles name ≡ Some f
+  pub compact-fits : (s : Setting) (k : Known) (name : List ℕ) → Knows a k → k.file < file.number
+      → k.handles name ≡ Some f
       → due k (command.Compact name) ≡ None
       → ReplyFits s b k (command.Compact name) (reply.Compact file.number file.from file.to)
   compact-fits s k name knows newer has none = (none, through (k.handles name) f (Compacts b k file.number file.from file.to) has (compacts k knows newer))

@@ -26,7 +26,8 @@ use Rattle.sv_replies.proofs.MetLaws.{fits_due, fits_met}
 pub first-next : (d : Option Cause) (ds : List (Option Cause)) → d ≡ None → first_of (d ∷ ds) ≡ first_of ds
 first-next d ds none = ap (λ z. first_of (z ∷ ds)) none
 
-pub first-here : (d : Option Cause) (ds : List (Option Cause)) (cause : Cause) → d ≡ Some cause → first_of (d ∷ ds) ≡ Some cause
+pub first-here : (d : Option Cause) (ds : List (Option Cause)) (cause : Cause) → d ≡ Some cause
+    → first_of (d ∷ ds) ≡ Some cause
 first-here d ds cause is = ap (λ z. first_of (z ∷ ds)) is
 
 -- ---- each item
@@ -44,7 +45,8 @@ module _ (k : Known) (name : List ℕ) where
   pub handle-due : k.handles name ≡ None → handle_cause k name ≡ Some (no_handle name)
   handle-due none = ap (λ (o : Option ℕ). cause_where (is_none o) (no_handle name)) none
 
-  dropped-is : (f : ℕ) (d : Bool) → k.handles name ≡ Some f → (k.families f).dropped ≡ d → dropped_cause k name ≡ cause_where d (refuses refusal.Dropped)
+  dropped-is : (f : ℕ) (d : Bool) → k.handles name ≡ Some f → (k.families f).dropped ≡ d
+      → dropped_cause k name ≡ cause_where d (refuses refusal.Dropped)
   dropped-is f d has is =
       ap (λ (o : Option ℕ). cause_where (dropped_of k o) (refuses refusal.Dropped)) has ∙ ap (λ z. cause_where z (refuses refusal.Dropped)) is
 
@@ -53,7 +55,8 @@ module _ (k : Known) (name : List ℕ) where
 
   -- ---- what is due of each command, after the tests of its words and its handle
 
-  pub put-due : (key value : List ℕ) (f : ℕ) → key_fault (length key) ≡ None → value_fault (length value) ≡ None → k.handles name ≡ Some f
+  pub put-due : (key value : List ℕ) (f : ℕ) → key_fault (length key) ≡ None → value_fault (length value) ≡ None
+      → k.handles name ≡ Some f
       → due k (command.Put name key value) ≡ first_of (dropped_cause k name ∷ [])
   put-due key value f at in_value has =
       first-next (key_cause key) (value_cause value ∷ handle_cause k name ∷ dropped_cause k name ∷ []) (key-free key at)
@@ -66,19 +69,23 @@ module _ (k : Known) (name : List ℕ) where
       first-next (key_cause key) (handle_cause k name ∷ dropped_cause k name ∷ []) (key-free key at)
       ∙ first-next (handle_cause k name) (dropped_cause k name ∷ []) (handle-free f has)
 
-  pub get-free : (key : List ℕ) (f : ℕ) → key_fault (length key) ≡ None → k.handles name ≡ Some f → due k (command.Get name key) ≡ None
+  pub get-free : (key : List ℕ) (f : ℕ) → key_fault (length key) ≡ None → k.handles name ≡ Some f
+      → due k (command.Get name key) ≡ None
   get-free key f at has = first-next (key_cause key) (handle_cause k name ∷ []) (key-free key at) ∙ first-next (handle_cause k name) [] (handle-free f has)
 
-  pub gets-free : (n : ℕ) (key : List ℕ) (f : ℕ) → key_fault (length key) ≡ None → k.handles name ≡ Some f → due k (command.Gets n name key) ≡ None
+  pub gets-free : (n : ℕ) (key : List ℕ) (f : ℕ) → key_fault (length key) ≡ None → k.handles name ≡ Some f
+      → due k (command.Gets n name key) ≡ None
   gets-free n key f at has = first-next (key_cause key) (handle_cause k name ∷ []) (key-free key at) ∙ first-next (handle_cause k name) [] (handle-free f has)
 
   pub flush-due : (f : ℕ) → k.handles name ≡ Some f → due k (command.Flush name) ≡ first_of (dropped_cause k name ∷ [])
   flush-due f has = first-next (handle_cause k name) (dropped_cause k name ∷ []) (handle-free f has)
 
-  pub compact-due : (f : ℕ) → k.handles name ≡ Some f → due k (command.Compact name) ≡ first_of (dropped_cause k name ∷ [])
+  pub compact-due : (f : ℕ) → k.handles name ≡ Some f
+      → due k (command.Compact name) ≡ first_of (dropped_cause k name ∷ [])
   compact-due f has = first-next (handle_cause k name) (dropped_cause k name ∷ []) (handle-free f has)
 
-  pub drop-due : (f : ℕ) → default_cause name ≡ None → k.handles name ≡ Some f → due k (command.Drop name) ≡ first_of (dropped_cause k name ∷ [])
+  pub drop-due : (f : ℕ) → default_cause name ≡ None → k.handles name ≡ Some f
+      → due k (command.Drop name) ≡ first_of (dropped_cause k name ∷ [])
   drop-due f other has =
       first-next (default_cause name) (handle_cause k name ∷ dropped_cause k name ∷ []) other
       ∙ first-next (handle_cause k name) (dropped_cause k name ∷ []) (handle-free f has)
@@ -103,7 +110,8 @@ module _ (k : Known) (name : List ℕ) where
   stands-free c f is has stands = is ∙ first-next (dropped_cause k name) [] (dropped-free f has stands)
 
   -- Dropped, by the lane itself or by another
-  pub dropped-fits : (s : Setting) (b : Books) (c : Command) (f : ℕ) → due k c ≡ first_of (dropped_cause k name ∷ []) → k.handles name ≡ Some f
+  pub dropped-fits : (s : Setting) (b : Books) (c : Command) (f : ℕ) → due k c ≡ first_of (dropped_cause k name ∷ [])
+      → k.handles name ≡ Some f
       → Met s b k c refusal.Dropped → ReplyFits s b k c (reply.Refused refusal.Dropped)
   dropped-fits s b c f is has met = by (k.families f).dropped refl
     where
@@ -113,20 +121,24 @@ module _ (k : Known) (name : List ℕ) where
 
   -- ---- without a handle
 
-  pub not_open-fits : (s : Setting) (b : Books) (c : Command) → due k c ≡ Some (no_handle name) → Has (IsStanding name) b.families
+  pub not_open-fits : (s : Setting) (b : Books) (c : Command) → due k c ≡ Some (no_handle name)
+      → Has (IsStanding name) b.families
       → ReplyFits s b k c (reply.Refused refusal.NotOpen)
   not_open-fits s b c is stands = fits_due s b k c (no_handle name) refusal.NotOpen is (λ e. absurd (cc)) (stands.0, stands.1, stands.2, stands.3.name_is)
 
-  pub no_family-fits : (s : Setting) (b : Books) (c : Command) → Knows b k → due k c ≡ Some (no_handle name) → (Has (IsStanding name) b.families → ⊥)
+  pub no_family-fits : (s : Setting) (b : Books) (c : Command) → Knows b k → due k c ≡ Some (no_handle name)
+      → (Has (IsStanding name) b.families → ⊥)
       → ReplyFits s b k c (reply.Refused refusal.NoFamily)
   no_family-fits s b c knows is none = fits_due s b k c (no_handle name) refusal.NoFamily is (λ e. absurd (cc)) (none_stands b k name knows none)
 
 -- ---- what the books say of the handle
 
-pub known-handle : (lane : ℕ) (b : Books) (k : Known) (name : List ℕ) (f : ℕ) → OwnAre lane b k → IsAt (IsOwn lane name) b.families f → k.handles name ≡ Some f
+pub known-handle : (lane : ℕ) (b : Books) (k : Known) (name : List ℕ) (f : ℕ) → OwnAre lane b k
+    → IsAt (IsOwn lane name) b.families f → k.handles name ≡ Some f
 known-handle lane b k name f own at = (own.handles name f).1 at
 
-pub known-none : (lane : ℕ) (b : Books) (k : Known) (name : List ℕ) → OwnAre lane b k → (Has (IsOwn lane name) b.families → ⊥) → k.handles name ≡ None
+pub known-none : (lane : ℕ) (b : Books) (k : Known) (name : List ℕ) → OwnAre lane b k
+    → (Has (IsOwn lane name) b.families → ⊥) → k.handles name ≡ None
 known-none lane b k name own none = by (k.handles name) refl
   where
     by : (o : Option ℕ) → k.handles name ≡ o → k.handles name ≡ None
@@ -134,7 +146,8 @@ known-none lane b k name own none = by (k.handles name) refl
     by (Some f) e = absurd (let at = (own.handles name f).0 e in none (suc f, at.0, at.1, at.2))
 
 -- a family that stands was not dropped by the lane
-pub known-stands : (b : Books) (k : Known) (f : ℕ) (x : Family) → Knows b k → slice_get b.families f ≡ Some x → x.dropped ≡ false → (k.families f).dropped ≡ false
+pub known-stands : (b : Books) (k : Known) (f : ℕ) (x : Family) → Knows b k → slice_get b.families f ≡ Some x
+    → x.dropped ≡ false → (k.families f).dropped ≡ false
 known-stands b k f x knows at stands = by (k.families f).dropped refl
   where
     by : (d : Bool) → (k.families f).dropped ≡ d → (k.families f).dropped ≡ false

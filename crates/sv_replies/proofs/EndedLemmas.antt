@@ -74,7 +74,8 @@ module _ (n : ℕ) where
   ended_step k c r e = inl e
 
   -- and all of them
-  ended_all : (all : List Answered) (k : Known) → (fold (λ l a. learn l a.command a.reply) k all).ended n ≡ true → (k.ended n ≡ true) ⊎ In n (ended_of all)
+  ended_all : (all : List Answered) (k : Known) → (fold (λ l a. learn l a.command a.reply) k all).ended n ≡ true
+      → (k.ended n ≡ true) ⊎ In n (ended_of all)
   ended_all [] k e = inl e
   ended_all (a ∷ all) k e = ⊎_elim
       (λ before. ⊎_elim

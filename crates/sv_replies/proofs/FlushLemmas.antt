@@ -27,7 +27,8 @@ use Rattle.sv_replies.proofs.OutputLemmas.{below-next, is-output, reach_of-push,
 use Rattle.sv_replies.proofs.MetLaws.{through}
 
 -- Begun once the active memtable is empty, the file covers all that the lane had seen, under a number that is new to it.
-pub flush-planned : (a b : Books) (f : ℕ) (file : FileMeta) (k : Known) → Sound a → Knows a k → (h : IsFlushBegun a b f file)
+pub flush-planned : (a b : Books) (f : ℕ) (file : FileMeta) (k : Known) → Sound a → Knows a k
+    → (h : IsFlushBegun a b f file)
     → length (borne_by h.c.descriptor.active a.journal) ≡ 0 → IsPlannedFor k f file
 flush-planned a b f file k sound knows h empty = record {
   later = omega (arith, h.to_is, empty, ends-at a sound f h.s h.c h.is_open, (knows.families f).seen);

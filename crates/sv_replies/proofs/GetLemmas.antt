@@ -31,12 +31,14 @@ pub get-fits : (s : Setting) (b : Books) (k : Known) (name key : List ℕ) (f : 
 get-fits s b k name key f (Some value) cut sv has none gets = (none, through (k.handles name) f (Gets s b k key (Some value) cut sv) has gets)
 get-fits s b k name key f None cut sv has none gets = (none, through (k.handles name) f (Gets s b k key None cut sv) has gets)
 
-pub get-knows : (b : Books) (k : Known) (name key : List ℕ) (f : ℕ) (r : Reply) → Knows b k → k.handles name ≡ Some f → ReadShows b f r
+pub get-knows : (b : Books) (k : Known) (name key : List ℕ) (f : ℕ) (r : Reply) → Knows b k → k.handles name ≡ Some f
+    → ReadShows b f r
     → Knows b (learn k (command.Get name key) r)
 get-knows b k name key f r knows has shown =
     knows-touch b (read (k.handles name) r k) (k.handles name) (of_handle (λ z. Knows b (read z r k)) (k.handles name) f has (knows-read b k f r knows shown))
 
-pub shows-read : (b : Books) (f : ℕ) (found : Option (List ℕ)) (cut sv : ℕ) → ReadsWithin b f cut sv → ReadShows b f (read_reply found cut sv)
+pub shows-read : (b : Books) (f : ℕ) (found : Option (List ℕ)) (cut sv : ℕ) → ReadsWithin b f cut sv
+    → ReadShows b f (read_reply found cut sv)
 shows-read b f (Some value) cut sv h = h
 shows-read b f None cut sv h = h
 
@@ -69,7 +71,8 @@ module _ (b : Books) (law : Lawful b) (f n : ℕ) (x : SuperVersion) (current : 
   current-reads = record { within = omega arith; of = (x, current.has, current-of) }
 
   pub current-gets : (s : Setting) (k : Known) (key : List ℕ) (found : Option (List ℕ)) → Knows b k
-      → (s.told ≡ true → look b.journal f (length (of_family f b.journal)) key ≡ found) → FindsUnread b f key found (length (of_family f b.journal)) x
+      → (s.told ≡ true → look b.journal f (length (of_family f b.journal)) key ≡ found)
+      → FindsUnread b f key found (length (of_family f b.journal)) x
       → Gets s b k key found (length (of_family f b.journal)) n f
   current-gets s k key found knows looked unread = record {
     later = (knows.families f).seen;

@@ -27,7 +27,8 @@ use Rattle.sv_replies.proofs.MetLaws.{through}
 
 -- A read at the cut of a Live snapshot, through the current SuperVersion.
 pub current-gets_at : (b : Books) (law : Lawful b) (f sv : ℕ) (x : SuperVersion) (current : IsCurrent b.tops b.supers f sv x)
-    → (s : Setting) (k : Known) (n : ℕ) (y : Snapshot) (key : List ℕ) (found : Option (List ℕ)) → Knows b k → MayUse s k n
+    → (s : Setting) (k : Known) (n : ℕ) (y : Snapshot) (key : List ℕ) (found : Option (List ℕ)) → Knows b k
+    → MayUse s k n
     → entry b.snapshots n ≡ Some y → (s.told ≡ true → look b.journal f (cut_of b.journal y.at f) key ≡ found)
     → FindsUnread b f key found (cut_of b.journal y.at f) x
     → GetsAt s b k n key found (cut_of b.journal y.at f) sv f
@@ -57,6 +58,7 @@ pub getp-fits : (s : Setting) (b : Books) (k : Known) (pin : ℕ) (p : Pinned) (
 getp-fits s b k pin p key (Some value) cut sv has none gets = (none, through (k.pins pin) p (GetsPinned s b k key (Some value) cut sv) has gets)
 getp-fits s b k pin p key None cut sv has none gets = (none, through (k.pins pin) p (GetsPinned s b k key None cut sv) has gets)
 
-pub getp-knows : (b : Books) (k : Known) (pin : ℕ) (p : Pinned) (key : List ℕ) (r : Reply) → Knows b k → k.pins pin ≡ Some p
+pub getp-knows : (b : Books) (k : Known) (pin : ℕ) (p : Pinned) (key : List ℕ) (r : Reply) → Knows b k
+    → k.pins pin ≡ Some p
     → ReadShows b p.family r → Knows b (learn k (command.Getp pin key) r)
 getp-knows b k pin p key r knows has shown = subst (λ (z : Option Pinned). Knows b (read (family_of_pin z) r k)) (sym has) (knows-read b k p.family r knows shown)

@@ -17,7 +17,8 @@ use Rattle.sv_replies.proofs.AfterLemmas.{count-later, dropped-later, goes_on-le
 -- ---- as books go on
 
 -- the files of a family's last Version reach as far
-pub reach-later : (a b : Books) (family upto : ℕ) → After a b → IsAt (LastReaches a upto) a.tops family → IsAt (LastReaches b upto) b.tops family
+pub reach-later : (a b : Books) (family upto : ℕ) → After a b → IsAt (LastReaches a upto) a.tops family
+    → IsAt (LastReaches b upto) b.tops family
 reach-later a b family upto after h =
     let at = after.tops family h.0 h.1 in
     (at.0, at.1, omega (arith, h.2, at.2.reach))
@@ -61,7 +62,8 @@ at-other f at x n d = ⊎_elim
     (eqb_tells n at)
 
 -- what holds of each answer, and of the other one
-pub at_holds : {A : Type 0} (P : ℕ → A → Type 0) (f : ℕ → A) (at : ℕ) (x : A) → ((n : ℕ) → P n (f n)) → P at x → (n : ℕ) → P n (with_at f at x n)
+pub at_holds : {A : Type 0} (P : ℕ → A → Type 0) (f : ℕ → A) (at : ℕ) (x : A) → ((n : ℕ) → P n (f n)) → P at x
+    → (n : ℕ) → P n (with_at f at x n)
 at_holds {A} P f at x each here n = ⊎_elim
     (λ is. subst (λ (y : A). P n y) (sym (at-here f at x n is.1)) (subst (λ m. P m x) (sym is.1) here))
     (λ other. subst (λ (y : A). P n y) (sym (at-other f at x n other.1)) (each n))
@@ -76,7 +78,8 @@ unequal x y = at (bytes_eq x y) refl
 
 -- the same of names
 pub handle_holds : (P : List ℕ → Option ℕ → Type 0) (handles : List ℕ → Option ℕ) (name : List ℕ) (f : Option ℕ)
-    → ((other : List ℕ) → P other (handles other)) → P name f → (other : List ℕ) → P other (with_handle handles name f other)
+    → ((other : List ℕ) → P other (handles other)) → P name f → (other : List ℕ)
+    → P other (with_handle handles name f other)
 handle_holds P handles name f each here other = ⊎_elim
     (λ is.
     let same : other ≡ name = (bytes_eq-Decides other name).0 is in

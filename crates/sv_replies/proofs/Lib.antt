@@ -9,6 +9,7 @@ pub mod DueLemmas
 pub mod EndedLemmas
 pub mod FamilyLemmas
 pub mod FlushLemmas
+pub mod FrozenLaws
 pub mod GetLemmas
 pub mod GetsLemmas
 pub mod HoldLemmas
@@ -24,6 +25,7 @@ pub mod OpeningLemmas
 pub mod OutputLemmas
 pub mod OwnHandles
 pub mod OwnLemmas
+pub mod PinnedReads
 pub mod RepliesFitLaws
 pub mod ReplyFitsLaws
 pub mod SeesLaws

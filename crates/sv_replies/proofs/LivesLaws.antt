@@ -21,7 +21,8 @@ module _ (a b : Books) (k : Known) (knows : Knows a k) (law : Lawful a) (still :
       let c = h.captured n l.listed in
       subst (λ g. WasCapturedFor a g n) (one_family b still.numbers.once n c.0 f (captured-later a b c.0 n after c.2) l.captured) c.2
 
-  covers-old : (numbers : List ℕ) → Lives a k numbers → (f : ℕ) → CoversFamily a (k.families f).reached f numbers → CoversFamily b (k.families f).reached f numbers
+  covers-old : (numbers : List ℕ) → Lives a k numbers → (f : ℕ) → CoversFamily a (k.families f).reached f numbers
+      → CoversFamily b (k.families f).reached f numbers
   covers-old numbers h f c = record {
     files = c.files;
     exact = λ n. (
@@ -44,7 +45,8 @@ module _ (a b : Books) (k : Known) (knows : Knows a k) (law : Lawful a) (still :
       (λ at. absurd (let y = get-some a.families f (omega (arith, get_within a.tops f at.0 at.1, law.paired)) in none_at (slice_get a.families f) y.0 none y.1))
       (knows.families f).reached
 
-  covers-new : (numbers : List ℕ) → Lives a k numbers → (f : ℕ) → slice_get a.families f ≡ None → CoversFamily b (k.families f).reached f numbers
+  covers-new : (numbers : List ℕ) → Lives a k numbers → (f : ℕ) → slice_get a.families f ≡ None
+      → CoversFamily b (k.families f).reached f numbers
   covers-new numbers h f none = record {
     files = [];
     exact = λ n. (
@@ -68,7 +70,8 @@ module _ (a b : Books) (k : Known) (knows : Knows a k) (law : Lawful a) (still :
       by true is = absurd (let e : true ≡ false = sym (keeps is) ∙ stands in cc)
       by false is = is
 
-  covers : (numbers : List ℕ) → Lives a k numbers → (f : ℕ) (x : Family) → slice_get b.families f ≡ Some x → x.dropped ≡ false → CoversFamily b (k.families f).reached f numbers
+  covers : (numbers : List ℕ) → Lives a k numbers → (f : ℕ) (x : Family) → slice_get b.families f ≡ Some x
+      → x.dropped ≡ false → CoversFamily b (k.families f).reached f numbers
   covers numbers h f x at stands = by (slice_get a.families f) refl
     where
       by : (o : Option Family) → slice_get a.families f ≡ o → CoversFamily b (k.families f).reached f numbers

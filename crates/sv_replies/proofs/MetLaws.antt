@@ -48,12 +48,15 @@ met_in-memory s b k (command.Unsnap snapshot) met = met
 met_in-memory s b k c met = tt
 
 -- where none is due, one that the books of its moment gave
-pub fits_met : (s : Setting) (b : Books) (k : Known) (c : Command) (e : Refusal) → due k c ≡ None → Met s b k c e → ReplyFits s b k c (reply.Refused e)
+pub fits_met : (s : Setting) (b : Books) (k : Known) (c : Command) (e : Refusal) → due k c ≡ None → Met s b k c e
+    → ReplyFits s b k c (reply.Refused e)
 fits_met s b k c refusal.OutOfMemory none met = met_in-memory s b k c met
 fits_met s b k c e none met = subst (λ d. Refused s b k c e d) (sym none) met
 
 -- the one that is due
-pub fits_due : (s : Setting) (b : Books) (k : Known) (c : Command) (cause : Cause) (e : Refusal) → due k c ≡ Some cause → (e ≡ refusal.OutOfMemory → ⊥) → ComesOf s b k cause e → ReplyFits s b k c (reply.Refused e)
+pub fits_due : (s : Setting) (b : Books) (k : Known) (c : Command) (cause : Cause) (e : Refusal)
+    → due k c ≡ Some cause → (e ≡ refusal.OutOfMemory → ⊥) → ComesOf s b k cause e
+    → ReplyFits s b k c (reply.Refused e)
 fits_due s b k c cause refusal.OutOfMemory is other comes = absurd (other refl)
 fits_due s b k c cause e is other comes = subst (λ d. Refused s b k c e d) (sym is) comes
 
@@ -198,6 +201,7 @@ module _ (s : Setting) (a b : Books) (k : Known) (after : After a b) where
   refused-later c e None h = met-later c e h
 
   -- a refusal fits all later books
-  pub refusal-later : (c : Command) (e : Refusal) → ReplyFits s a k c (reply.Refused e) → ReplyFits s b k c (reply.Refused e)
+  pub refusal-later : (c : Command) (e : Refusal) → ReplyFits s a k c (reply.Refused e)
+      → ReplyFits s b k c (reply.Refused e)
   refusal-later c refusal.OutOfMemory h = h
   refusal-later c e h = refused-later c e (due k c) h

@@ -32,7 +32,8 @@ get_append (z ∷ xs) ys (suc i) x e = ⊎_elim
     (λ new. inr (new.0, omega (arith, new.1), new.2))
     (get_append xs ys i x e)
 
-pub distinct-append : {A : Type 0} (xs ys : List A) → Distinct xs → Distinct ys → ((x : A) → In x xs → In x ys → ⊥) → Distinct (xs ++ ys)
+pub distinct-append : {A : Type 0} (xs ys : List A) → Distinct xs → Distinct ys → ((x : A) → In x xs → In x ys → ⊥)
+    → Distinct (xs ++ ys)
 distinct-append xs ys p q apart i j x a b = ⊎_elim
     (λ u. ⊎_elim
     (λ v. p i j x u v)
@@ -64,10 +65,12 @@ one-distinct x (suc i) j y a b = absurd (let e = a in cc)
 
 -- ---- purges
 
-pub purged_of-push : (all : List Answered) (x : Answered) → purged_of (all ++ x ∷ []) ≡ purged_of all ++ purged_by x.reply
+pub purged_of-push : (all : List Answered) (x : Answered)
+    → purged_of (all ++ x ∷ []) ≡ purged_of all ++ purged_by x.reply
 purged_of-push all x = flat_map-append (λ (a : Answered). purged_by a.reply) all (x ∷ []) ∙ ap (λ z. purged_of all ++ z) (append-nil (purged_by x.reply))
 
-pub ended_of-push : (all : List Answered) (x : Answered) → ended_of (all ++ x ∷ []) ≡ ended_of all ++ ended_by x.command x.reply
+pub ended_of-push : (all : List Answered) (x : Answered)
+    → ended_of (all ++ x ∷ []) ≡ ended_of all ++ ended_by x.command x.reply
 ended_of-push all x = flat_map-append (λ (a : Answered). ended_by a.command a.reply) all (x ∷ []) ∙ ap (λ z. ended_of all ++ z) (append-nil (ended_by x.command x.reply))
 
 -- where one lane is
@@ -88,8 +91,10 @@ pub gone-later : (a b : Books) (numbers : List ℕ) → After a b → AreGone a 
 gone-later a b numbers after h n has = has-later KeepsNumber (HasStatus n Gone) (HasStatus n Gone) (gone_keeps n) a.files.numbers b.files.numbers after.numbers (h n has)
 
 -- What a purge or scan showed was not Gone before, so none of it was shown before.
-pub purged-once : (a b : Books) (all : List Answered) (x : Answered) → After a b → AreGone a (purged_of all) → Distinct (purged_of all)
-    → IsStrictlyIncreasing (purged_by x.reply) → ((n : ℕ) → In n (purged_by x.reply) → IsRegistered a.files.numbers n Gone → ⊥)
+pub purged-once : (a b : Books) (all : List Answered) (x : Answered) → After a b → AreGone a (purged_of all)
+    → Distinct (purged_of all)
+    → IsStrictlyIncreasing (purged_by x.reply)
+    → ((n : ℕ) → In n (purged_by x.reply) → IsRegistered a.files.numbers n Gone → ⊥)
     → AreGone b (purged_by x.reply) → Distinct (purged_of (all ++ x ∷ [])) × AreGone b (purged_of (all ++ x ∷ []))
 purged-once a b all x after gone once rising new now = (
   subst (λ (l : List ℕ). Distinct l) (sym (purged_of-push all x))
@@ -103,9 +108,12 @@ purged-once a b all x after gone once rising new now = (
 abbrev pub AreOver : Books → List ℕ → Type 0
 AreOver b numbers = (n : ℕ) → In n numbers → IsIn IsOver b.snapshots n
 
-pub ended-once : (a b : Books) (all : List Answered) (x : Answered) → After a b → AreOver a (ended_of all) → Distinct (ended_of all)
-    → Distinct (ended_by x.command x.reply) → ((n : ℕ) → In n (ended_by x.command x.reply) → IsIn IsOver a.snapshots n → ⊥)
-    → AreOver b (ended_by x.command x.reply) → Distinct (ended_of (all ++ x ∷ [])) × AreOver b (ended_of (all ++ x ∷ []))
+pub ended-once : (a b : Books) (all : List Answered) (x : Answered) → After a b → AreOver a (ended_of all)
+    → Distinct (ended_of all)
+    → Distinct (ended_by x.command x.reply)
+    → ((n : ℕ) → In n (ended_by x.command x.reply) → IsIn IsOver a.snapshots n → ⊥)
+    → AreOver b (ended_by x.command x.reply)
+    → Distinct (ended_of (all ++ x ∷ [])) × AreOver b (ended_of (all ++ x ∷ []))
 ended-once a b all x after over once here new now = (
   subst (λ (l : List ℕ). Distinct l) (sym (ended_of-push all x))
       (distinct-append (ended_of all) (ended_by x.command x.reply) once here (λ n old is. new n is (over n old))),

@@ -29,7 +29,8 @@ some_is (Some f) X h = h
 
 -- a read at a snapshot that there is none of, after the tests of its words
 at_gets : (told : Bool) (b : Books) (k : Known) (m : ℕ) (name key : List ℕ)
-    → Refused (only told) b k (command.Gets m name key) refusal.NoSnapshot (due k (command.Gets m name key)) → NoSuch (only told) b k m
+    → Refused (only told) b k (command.Gets m name key) refusal.NoSnapshot (due k (command.Gets m name key))
+    → NoSuch (only told) b k m
 at_gets told b k m name key = by (nat_le 1 (length key) && nat_le (length key) 64) (k.handles name)
   where
     by : (ok : Bool) (o : Option ℕ)
@@ -40,7 +41,8 @@ at_gets told b k m name key = by (nat_le 1 (length key) && nat_le (length key) 6
     by true (Some f) h = some_is (k.handles name) (NoSuch (only told) b k m) h
 
 -- what a reply that fits says of a snapshot that it misses
-missed : (told : Bool) (b : Books) (k : Known) (c : Command) (r : Reply) (n : ℕ) → ReplyFits (only told) b k c r → In n (missing_in c r) → k.snapshots n ≡ true → k.ended n ≡ true
+missed : (told : Bool) (b : Books) (k : Known) (c : Command) (r : Reply) (n : ℕ) → ReplyFits (only told) b k c r
+    → In n (missing_in c r) → k.snapshots n ≡ true → k.ended n ≡ true
 missed told b k (command.Unsnap m) (reply.Refused refusal.NoSnapshot) n fits has shown =
     let same = (get_one m has.at n has.is).1 in
     subst (λ i. k.ended i ≡ true) (sym same) (fits.alone refl (subst (λ i. k.snapshots i ≡ true) same shown))

@@ -62,13 +62,15 @@ first-own next lane lt = record {
   writes = refl;
 }
   where
-    to : (name : List ℕ) (f : ℕ) → at_first.handles name ≡ Some f → IsAt (IsOwn lane name) (opening_books next).families f
+    to : (name : List ℕ) (f : ℕ) → at_first.handles name ≡ Some f
+        → IsAt (IsOwn lane name) (opening_books next).families f
     to name f e =
         let is = only_default name f e in
         subst (λ g. IsAt (IsOwn lane name) (opening_books next).families g) (sym is.1)
         (default_family, refl, record { name_is = sym is.0; handle = same_in true 32 lane lt })
 
-    from : (name : List ℕ) (f : ℕ) → IsAt (IsOwn lane name) (opening_books next).families f → at_first.handles name ≡ Some f
+    from : (name : List ℕ) (f : ℕ) → IsAt (IsOwn lane name) (opening_books next).families f
+        → at_first.handles name ≡ Some f
     from name zero h =
         let same : h.0 ≡ default_family = some (sym h.1) in
         has_default name (sym h.2.name_is ∙ ap (λ (x : Family). x.name) same)

@@ -53,7 +53,8 @@ module _ (a b : Books) (f : ℕ) (file : FileMeta) (settled : IsSettled f file.n
   }
 
   -- and is the family's last one
-  pub reaches : (files : List FileMeta) (live : Bool) (t u : Top) → slice_get a.tops f ≡ Some t → u.last ≡ length a.versions + 1
+  pub reaches : (files : List FileMeta) (live : Bool) (t u : Top) → slice_get a.tops f ≡ Some t
+      → u.last ≡ length a.versions + 1
       → b.tops ≡ slice_set a.tops f u → b.versions ≡ a.versions ++ record { files = files; live = live } ∷ []
       → reach_of files ≡ file.to → IsAt (LastReaches b file.to) b.tops f
   reaches files live t u at last tops versions reach = (

@@ -24,7 +24,8 @@ set_here l n x within = let y = get-some l n within in (placed-set l n y.0 x y.1
 -- ---- a family is made by the lane, or opened
 
 module _ (lane : ℕ) (a b : Books) (k : Known) (own : OwnAre lane a k) (name : List ℕ) (free : k.handles name ≡ None) where
-  pub own-create : (r : Family) → IsFamilyMade a b r → IsOwn lane name r → OwnAre lane b (has_handle name (length a.families) k)
+  pub own-create : (r : Family) → IsFamilyMade a b r → IsOwn lane name r
+      → OwnAre lane b (has_handle name (length a.families) k)
   own-create r h is =
       own-handle lane a b k own name (length a.families) r
       (subst (λ (l : List Family). IsPlaced a.families l (length a.families) r) (sym (ap (λ (x : Books). x.families) h.is)) (placed-push a.families r))
@@ -32,7 +33,8 @@ module _ (lane : ℕ) (a b : Books) (k : Known) (own : OwnAre lane a k) (name : 
       (λ x other at has. absurd (let lt = get_within a.families (length a.families) x at in omega (arith, lt)))
       (ap (λ (x : Books). x.files.holds) h.is) (ap (λ (x : Books). x.journal) h.is)
 
-  pub own-open : (f : ℕ) (h : IsOpened a b f lane) → h.it.name ≡ name → lane < length h.it.handles → OwnAre lane b (has_handle name f k)
+  pub own-open : (f : ℕ) (h : IsOpened a b f lane) → h.it.name ≡ name → lane < length h.it.handles
+      → OwnAre lane b (has_handle name f k)
   own-open f h is within =
       own-handle lane a b k own name f (record h.it { handles = slice_set h.it.handles lane true })
       (subst (λ (l : List Family). IsPlaced a.families l f (record h.it { handles = slice_set h.it.handles lane true })) (sym (ap (λ (x : Books). x.families) h.is)) (placed-set a.families f h.it (record h.it { handles = slice_set h.it.handles lane true }) h.at))
@@ -69,7 +71,8 @@ module _ (lane : ℕ) (a b : Books) (k : Known) (own : OwnAre lane a k) (name : 
       (old.0, placed.others g away ∙ old.1, old.2))
       (name_or other name)
 
-  from : (other : List ℕ) (g : ℕ) → IsAt (IsOwn lane other) b.families g → with_handle k.handles name None other ≡ Some g
+  from : (other : List ℕ) (g : ℕ) → IsAt (IsOwn lane other) b.families g
+      → with_handle k.handles name None other ≡ Some g
   from other g h = elim (apart_or g f) [
     | inl here ↦ absurd (given_back other (subst (IsOwn lane other) (some (sym h.1 ∙ ap (slice_get b.families) here ∙ placed.here)) h.2))
     | inr away ↦
@@ -87,7 +90,8 @@ module _ (lane : ℕ) (a b : Books) (k : Known) (own : OwnAre lane a k) (name : 
 
 -- ---- a family is dropped, or has other options
 
-pub own-drop : (lane : ℕ) (a b : Books) (k : Known) (f by : ℕ) → (h : IsDropped a b f by) → OwnAre lane a k → OwnAre lane b (learns as_dropped (Some f) k)
+pub own-drop : (lane : ℕ) (a b : Books) (k : Known) (f by : ℕ) → (h : IsDropped a b f by) → OwnAre lane a k
+    → OwnAre lane b (learns as_dropped (Some f) k)
 own-drop lane a b k f by h own =
     own-kept lane a b k (learns as_dropped (Some f) k) (record {
       handles = placed_own lane a.families b.families f h.it (record h.it { dropped = true })
@@ -109,7 +113,8 @@ keeps-set lane a b f o h = record {
 -- ---- a hold of the lane begins or ends
 
 pub own-hold : (lane : ℕ) (a b : Books) (k : Known) (count : ℕ) → OwnAre lane a k
-    → b ≡ record a { files = record a.files { holds = slice_set a.files.holds lane count } } → OwnAre lane b (record k { holds = count })
+    → b ≡ record a { files = record a.files { holds = slice_set a.files.holds lane count } }
+    → OwnAre lane b (record k { holds = count })
 own-hold lane a b k count own is = record {
   handles = λ name f. (
     λ e. subst (λ (x : Books). IsAt (IsOwn lane name) x.families f) (sym is) ((own.handles name f).0 e),

@@ -28,7 +28,8 @@ pub record KeepsOwn (lane : ℕ) (a b : Books) : Type 0 where
   pub holds : slice_get b.files.holds lane ≡ slice_get a.files.holds lane
   pub writes : by_lane lane b.journal ≡ by_lane lane a.journal
 
-pub own-kept : (lane : ℕ) (a b : Books) (k l : Known) → KeepsOwn lane a b → l.handles ≡ k.handles → l.holds ≡ k.holds → l.accepted ≡ k.accepted
+pub own-kept : (lane : ℕ) (a b : Books) (k l : Known) → KeepsOwn lane a b → l.handles ≡ k.handles → l.holds ≡ k.holds
+    → l.accepted ≡ k.accepted
     → OwnAre lane a k → OwnAre lane b l
 own-kept lane a b k l keeps handles holds accepted own = record {
   handles = λ name f. (
@@ -40,7 +41,8 @@ own-kept lane a b k l keeps handles holds accepted own = record {
 }
 
 -- the families, the holds and the journal stand
-pub keeps-all : (lane : ℕ) (a b : Books) → b.families ≡ a.families → b.files.holds ≡ a.files.holds → b.journal ≡ a.journal → KeepsOwn lane a b
+pub keeps-all : (lane : ℕ) (a b : Books) → b.families ≡ a.families → b.files.holds ≡ a.files.holds
+    → b.journal ≡ a.journal → KeepsOwn lane a b
 keeps-all lane a b families holds journal = record {
   handles = λ name f. (
     λ at. subst (λ (l : List Family). Own lane name l f) (sym families) at,
@@ -51,8 +53,10 @@ keeps-all lane a b families holds journal = record {
 }
 
 -- a family keeps its name and the lane's handle
-pub placed_own : (lane : ℕ) (a b : List Family) (f : ℕ) (x y : Family) → IsPlaced a b f y → slice_get a f ≡ Some x → y.name ≡ x.name
-    → slice_get y.handles lane ≡ slice_get x.handles lane → (name : List ℕ) (g : ℕ) → Own lane name a g ↔ Own lane name b g
+pub placed_own : (lane : ℕ) (a b : List Family) (f : ℕ) (x y : Family) → IsPlaced a b f y → slice_get a f ≡ Some x
+    → y.name ≡ x.name
+    → slice_get y.handles lane ≡ slice_get x.handles lane → (name : List ℕ) (g : ℕ)
+    → Own lane name a g ↔ Own lane name b g
 placed_own lane a b f x y placed at named handle name g = elim (apart_or g f) [
   | inl here ↦ (
     λ own.

@@ -12,7 +12,8 @@ use Rattle.sv_replies.specs.Settings.{Setting}
 use Rattle.sv_replies.specs.ReplyFits.{RepliesFit, ReplyFits}
 
 -- what is known goes on by one reply
-pub known-push : (all : List Answered) (a : Answered) → known_after (all ++ a ∷ []) ≡ learn (known_after all) a.command a.reply
+pub known-push : (all : List Answered) (a : Answered)
+    → known_after (all ++ a ∷ []) ≡ learn (known_after all) a.command a.reply
 known-push all a = fold-append (λ (k : Known) (x : Answered). learn k x.command x.reply) at_first all (a ∷ [])
 
 -- what holds of each place after the ones before it
@@ -26,12 +27,14 @@ get-last : (all : List Answered) (x : Answered) → slice_get (all ++ x ∷ []) 
 get-last [] x = refl
 get-last (a ∷ all) x = get-last all x
 
-get-before : (all : List Answered) (x : Answered) (k : ℕ) → k < length all → slice_get (all ++ x ∷ []) k ≡ slice_get all k
+get-before : (all : List Answered) (x : Answered) (k : ℕ) → k < length all
+    → slice_get (all ++ x ∷ []) k ≡ slice_get all k
 get-before [] x k lt = absurd (omega arith)
 get-before (a ∷ all) x zero lt = refl
 get-before (a ∷ all) x (suc k) lt = get-before all x k (omega arith)
 
-pub each-push : (P : List Answered → Answered → Type 0) (all : List Answered) (x : Answered) → EachAfter P all → P all x → EachAfter P (all ++ x ∷ [])
+pub each-push : (P : List Answered → Answered → Type 0) (all : List Answered) (x : Answered) → EachAfter P all
+    → P all x → EachAfter P (all ++ x ∷ [])
 each-push P all x each here k a at = elim (cases_lt k (length all)) [
   | inl lt ↦ subst (λ z. P z a) (sym (take-append-le k all (x ∷ []) (omega arith))) (each k a (sym (get-before all x k lt) ∙ at))
   | inr ge ↦

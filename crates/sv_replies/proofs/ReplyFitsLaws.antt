@@ -57,7 +57,8 @@ module _ (s : Setting) (a b : Books) (k : Known) (knows : Knows a k) (law : Lawf
   writes key op n f h = record { later = h.later; written = written-later a b s.lane f key op n after h.written }
 
   -- what is found without a file
-  unread_keeps : (f : ℕ) (key : List ℕ) (found : Option (List ℕ)) (cut : ℕ) → cut ≤ length (of_family f a.journal) → (x y : SuperVersion) → KeepsSuper x y
+  unread_keeps : (f : ℕ) (key : List ℕ) (found : Option (List ℕ)) (cut : ℕ) → cut ≤ length (of_family f a.journal)
+      → (x y : SuperVersion) → KeepsSuper x y
       → FindsUnread a f key found cut x → FindsUnread b f key found cut y
   unread_keeps f key found cut few x y kept h =
       let v = after.versions x.descriptor.version h.version h.at in
@@ -78,7 +79,8 @@ module _ (s : Setting) (a b : Books) (k : Known) (knows : Knows a k) (law : Lawf
   unread f key found cut sv few h =
       in-register KeepsSuper (FindsUnread a f key found cut) (FindsUnread b f key found cut) (unread_keeps f key found cut few) a.supers b.supers sv after.supers h
 
-  gets : (key : List ℕ) (found : Option (List ℕ)) (cut sv f : ℕ) → Gets s a k key found cut sv f → Gets s b k key found cut sv f
+  gets : (key : List ℕ) (found : Option (List ℕ)) (cut sv f : ℕ) → Gets s a k key found cut sv f
+      → Gets s b k key found cut sv f
   gets key found cut sv f h = record {
     later = h.later;
     newer = h.newer;
@@ -100,7 +102,8 @@ module _ (s : Setting) (a b : Books) (k : Known) (knows : Knows a k) (law : Lawf
             (λ p q keeps it. subst (λ (ms : List ℕ). In x.descriptor.active ms) (sym keeps.members) it) a.lists b.lists after.lists l);
       }
 
-  gets_pinned : (key : List ℕ) (found : Option (List ℕ)) (cut sv : ℕ) (p : Pinned) → GetsPinned s a k key found cut sv p → GetsPinned s b k key found cut sv p
+  gets_pinned : (key : List ℕ) (found : Option (List ℕ)) (cut sv : ℕ) (p : Pinned)
+      → GetsPinned s a k key found cut sv p → GetsPinned s b k key found cut sv p
   gets_pinned key found cut sv p h = record {
     serial_is = h.serial_is;
     later = ⊎_elim (λ far. inl far) (λ at. inr (in-register KeepsSuper (EndsAt a cut) (EndsAt b cut) (ends_keeps cut) a.supers b.supers sv after.supers at)) h.later;
@@ -125,7 +128,8 @@ module _ (s : Setting) (a b : Books) (k : Known) (knows : Knows a k) (law : Lawf
   cut_within : (f cut n : ℕ) → IsIn (CutsAt a f cut) a.snapshots n → cut ≤ length (of_family f a.journal)
   cut_within f cut n h = omega (arith, h.2.is, cut-ascend a.journal f h.0.at (length a.journal) h.2.within, cut-now a.journal f)
 
-  gets_at : (n : ℕ) (key : List ℕ) (found : Option (List ℕ)) (cut sv f : ℕ) → GetsAt s a k n key found cut sv f → GetsAt s b k n key found cut sv f
+  gets_at : (n : ℕ) (key : List ℕ) (found : Option (List ℕ)) (cut sv f : ℕ) → GetsAt s a k n key found cut sv f
+      → GetsAt s b k n key found cut sv f
   gets_at n key found cut sv f h = record {
     may = h.may;
     newer = h.newer;
@@ -157,7 +161,8 @@ module _ (s : Setting) (a b : Books) (k : Known) (knows : Knows a k) (law : Lawf
   creates : (name : List ℕ) (id : ℕ) → Creates a k name id → Creates b k name id
   creates name id h = record { free = h.free; newer = h.newer; named = named-later a b id name after h.named }
 
-  option_keeps : (f : ℕ) (option : OptionName) (value : ℕ) (x y : SuperVersion) → KeepsSuper x y → HasOption f option value x → HasOption f option value y
+  option_keeps : (f : ℕ) (option : OptionName) (value : ℕ) (x y : SuperVersion) → KeepsSuper x y
+      → HasOption f option value x → HasOption f option value y
   option_keeps f option value x y kept h = record {
     family_is = ap (λ (d : Descriptor). d.family) kept.descriptor ∙ h.family_is;
     value_is = ap (λ (d : Descriptor). value_of option d.options) kept.descriptor ∙ h.value_is;

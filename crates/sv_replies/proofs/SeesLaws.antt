@@ -13,7 +13,8 @@ use Rattle.sv_replies.specs.ReadReply.{read_reply}
 use Rattle.sv_replies.proofs.MetLaws.{through}
 use Rattle.sv_replies.proofs.RepliesFitLaws.{each-push}
 
-pub sees-push : (all : List Answered) (x : Answered) → GetsSeeAll all → SeesAll (known_after all) (accepted all) x.command x.reply → GetsSeeAll (all ++ x ∷ [])
+pub sees-push : (all : List Answered) (x : Answered) → GetsSeeAll all
+    → SeesAll (known_after all) (accepted all) x.command x.reply → GetsSeeAll (all ++ x ∷ [])
 sees-push all x each here = each-push (λ before a. SeesAll (known_after before) (accepted before) a.command a.reply) all x each here
 
 count-changes : (f : ℕ) (journal : List Write) → count_in f (map change_of journal) ≡ length (of_family f journal)
@@ -27,7 +28,8 @@ count-changes f (w ∷ journal) = by (w.family == f) (count-changes f journal)
     by false h = h
 
 -- A get at the end of a journal that is just the accepted writes sees all of them.
-pub get-sees : (b : Books) (all : List Answered) (name key : List ℕ) (f : ℕ) (found : Option (List ℕ)) (cut sv : ℕ) → map change_of b.journal ≡ accepted all
+pub get-sees : (b : Books) (all : List Answered) (name key : List ℕ) (f : ℕ) (found : Option (List ℕ)) (cut sv : ℕ)
+    → map change_of b.journal ≡ accepted all
     → (known_after all).handles name ≡ Some f → cut ≡ length (of_family f b.journal)
     → SeesAll (known_after all) (accepted all) (command.Get name key) (read_reply found cut sv)
 get-sees b all name key f found cut sv journal has end = by found

@@ -32,7 +32,8 @@ abbrev IsMade : Books → ℕ → Type 0
 IsMade b n = (x : Snapshot) × (entry b.snapshots n ≡ Some x)
 
 -- a snapshot that was made
-pub knows-snapshot : (b : Books) (k : Known) (n : ℕ) → Knows b k → IsMade b n → Knows b (record k { snapshots = with_at k.snapshots n true })
+pub knows-snapshot : (b : Books) (k : Known) (n : ℕ) → Knows b k → IsMade b n
+    → Knows b (record k { snapshots = with_at k.snapshots n true })
 knows-snapshot b k n h made = record {
   families = h.families;
   handles = h.handles;
@@ -45,7 +46,8 @@ knows-snapshot b k n h made = record {
 }
 
 -- one that is over
-pub knows-ended : (b : Books) (k : Known) (n : ℕ) → Knows b k → IsIn IsOver b.snapshots n → Knows b (record k { ended = with_at k.ended n true })
+pub knows-ended : (b : Books) (k : Known) (n : ℕ) → Knows b k → IsIn IsOver b.snapshots n
+    → Knows b (record k { ended = with_at k.ended n true })
 knows-ended b k n h over = record {
   families = h.families;
   handles = h.handles;
@@ -100,7 +102,8 @@ module _ (a b : Books) (h : IsSnapped a b) where
     },
   )
 
-  pub snap-knows : (k : Known) (n at : ℕ) → After a b → Knows a k → n ≡ length a.snapshots + 1 → Knows b (learn k command.Snap (reply.Snap n at))
+  pub snap-knows : (k : Known) (n at : ℕ) → After a b → Knows a k → n ≡ length a.snapshots + 1
+      → Knows b (learn k command.Snap (reply.Snap n at))
   snap-knows k n at after knows number = knows-snapshot b k n (knows-later a b k after knows) (it, snapped_at n number)
 
 -- ---- ended
@@ -113,7 +116,8 @@ module _ (a b : Books) (n : ℕ) (x : Snapshot) (h : IsUnsnapped a b n x) where
     refl,
   )
 
-  pub unsnap-fits : (s : Setting) (k : Known) → Knows a k → (s.lanes ≡ 1 → AllAreOwn a k) → ReplyFits s b k (command.Unsnap n) reply.Unsnap
+  pub unsnap-fits : (s : Setting) (k : Known) → Knows a k → (s.lanes ≡ 1 → AllAreOwn a k)
+      → ReplyFits s b k (command.Unsnap n) reply.Unsnap
   unsnap-fits s k knows alone = (refl, record { may = may-use s a k n x knows alone h.at h.live; over = is-over })
 
   pub unsnap-knows : (k : Known) → After a b → Knows a k → Knows b (learn k (command.Unsnap n) reply.Unsnap)
@@ -135,12 +139,14 @@ ShowsSerial b f (reply.Found value cut sv) = IsIn (IsOf f) b.supers sv
 ShowsSerial b f (reply.Absent cut sv) = IsIn (IsOf f) b.supers sv
 ShowsSerial b f r = Unit {0}
 
-knows-read_at : (b : Books) (k : Known) (n f : ℕ) (r : Reply) → Knows b k → IsMade b n → ShowsSerial b f r → Knows b (read_at n (Some f) r k)
+knows-read_at : (b : Books) (k : Known) (n f : ℕ) (r : Reply) → Knows b k → IsMade b n → ShowsSerial b f r
+    → Knows b (read_at n (Some f) r k)
 knows-read_at b k n f (reply.Found value cut sv) h made of = knows-snapshot b (learns (met sv) (Some f) k) n (knows-serial b k h f sv of) made
 knows-read_at b k n f (reply.Absent cut sv) h made of = knows-snapshot b (learns (met sv) (Some f) k) n (knows-serial b k h f sv of) made
 knows-read_at b k n f r h made of = h
 
-pub gets-knows : (b : Books) (k : Known) (n : ℕ) (name key : List ℕ) (f : ℕ) (r : Reply) → Knows b k → k.handles name ≡ Some f → IsMade b n
+pub gets-knows : (b : Books) (k : Known) (n : ℕ) (name key : List ℕ) (f : ℕ) (r : Reply) → Knows b k
+    → k.handles name ≡ Some f → IsMade b n
     → ShowsSerial b f r → Knows b (learn k (command.Gets n name key) r)
 gets-knows b k n name key f r knows has made of = of_handle (λ z. Knows b (read_at n z r k)) (k.handles name) f has (knows-read_at b k n f r knows made of)
 

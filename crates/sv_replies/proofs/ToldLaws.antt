@@ -36,7 +36,8 @@ told-none s b knows = record {
   knows = λ n. subst (λ (l : List Answered). Knows b (known_after l)) (sym (none-taken n)) knows;
 }
 
-pub told-later : (s : Setting) (a b : Books) (all : List Answered) → Lawful a → Lawful b → After a b → Told s a all → Told s b all
+pub told-later : (s : Setting) (a b : Books) (all : List Answered) → Lawful a → Lawful b → After a b → Told s a all
+    → Told s b all
 told-later s a b all law still after told = record {
   fits = λ n x at. fits-later s a b (known_after (take n all)) (told.knows n) law still after x.command x.reply (told.fits n x at);
   knows = λ n. knows-later a b (known_after (take n all)) after (told.knows n);
@@ -47,8 +48,10 @@ pub told-knows : (s : Setting) (b : Books) (all : List Answered) → Told s b al
 told-knows s b all told = subst (λ (l : List Answered). Knows b (known_after l)) (take_all (length all) all (omega arith)) (told.knows (length all))
 
 -- One reply more, after a change of the books.
-pub told-push : (s : Setting) (a b : Books) (all : List Answered) (x : Answered) → Lawful a → Lawful b → After a b → Told s a all
-    → ReplyFits s b (known_after all) x.command x.reply → Knows b (learn (known_after all) x.command x.reply) → Told s b (all ++ x ∷ [])
+pub told-push : (s : Setting) (a b : Books) (all : List Answered) (x : Answered) → Lawful a → Lawful b → After a b
+    → Told s a all
+    → ReplyFits s b (known_after all) x.command x.reply → Knows b (learn (known_after all) x.command x.reply)
+    → Told s b (all ++ x ∷ [])
 told-push s a b all x law still after told fits knows =
     let later = told-later s a b all law still after told in
     record {
@@ -64,7 +67,8 @@ told-push s a b all x law still after told fits knows =
 
 -- ---- in the lane's own books
 
-pub lane_told-push : (s : Setting) (a b : Books) (all : List Answered) (x : Answered) → Lawful a → Lawful b → After a b → LaneTold s a all
+pub lane_told-push : (s : Setting) (a b : Books) (all : List Answered) (x : Answered) → Lawful a → Lawful b
+    → After a b → LaneTold s a all
     → Answers s a b (known_after all) x.command x.reply → LaneTold s b (all ++ x ∷ [])
 lane_told-push s a b all x law still after told answers = record {
   told = told-push s a b all x law still after told.told answers.fits answers.still.knows;
@@ -73,7 +77,8 @@ lane_told-push s a b all x law still after told answers = record {
 }
 
 -- of a database that begins empty
-pub lane_told-none : (s : Setting) (next : ℕ) → s.lane < 32 → 1 ≤ next → next ≤ 18446744073709551615 → LaneTold s (opening_books next) []
+pub lane_told-none : (s : Setting) (next : ℕ) → s.lane < 32 → 1 ≤ next → next ≤ 18446744073709551615
+    → LaneTold s (opening_books next) []
 lane_told-none s next within least most =
     let knows = opening-knows (opening_books next) (first-opening next least most) in
     record {

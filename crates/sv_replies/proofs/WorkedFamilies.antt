@@ -106,7 +106,8 @@ only_shown id e = ⊎_elim
 fits-no_family : ReplyFits alone books (known_after (take 8 rows)) (command.Get cold k) (reply.Refused refusal.NoFamily)
 fits-no_family = only_shown
 
-other_refusal : ReplyFits alone books (known_after (take 8 rows)) (command.Get cold k) (reply.Refused refusal.Dropped) → ⊥
+other_refusal : ReplyFits alone books (known_after (take 8 rows)) (command.Get cold k) (reply.Refused refusal.Dropped)
+    → ⊥
 other_refusal h = h
 
 read_without : ReplyFits alone books (known_after (take 8 rows)) (command.Get cold k) (reply.Found seven 1 4) → ⊥
@@ -129,5 +130,6 @@ same_family x y e = cc
 made_before : ReplyFits first_of_two books (known_after (take 8 rows)) (command.Create cold) (reply.Create 1) → ⊥
 made_before h = absurd (omega (arith, h.1.newer))
 
-standing : ReplyFits first_of_two (record books { families = default_family ∷ family cold false ∷ [] }) (known_after (take 8 rows)) (command.Open cold) (reply.Refused refusal.NoFamily) → ⊥
+standing : ReplyFits first_of_two (record books { families = default_family ∷ family cold false ∷ [] }) (known_after (take 8 rows)) (command.Open cold) (reply.Refused refusal.NoFamily)
+    → ⊥
 standing h = let w = h 1 refl in absurd (let e : false ≡ true = ap (λ (f : Family). f.dropped) (same_family (family cold false) w.0 w.1) ∙ w.2 in cc)

@@ -103,7 +103,8 @@ stale : ReplyFits alone books (known_after (take 1 rows)) (command.Get home a) (
 stale h = absurd (none_some one (sym (h.1.looks.found_is refl)))
 
 -- a value from a memtable is promised where the directory tells nothing too
-untold : ReplyFits (record { lane = 0; lanes = 1; told = false }) books (known_after (take 1 rows)) (command.Get home a) (reply.Absent 1 1) → ⊥
+untold : ReplyFits (record { lane = 0; lanes = 1; told = false }) books (known_after (take 1 rows)) (command.Get home a) (reply.Absent 1 1)
+    → ⊥
 untold h =
     let it = h.1.unread in
     let same : super 0 1 1 1 0 ≡ it.0 = one_super (super 0 1 1 1 0) it.0 it.1 in

@@ -125,7 +125,8 @@ fits-no_snapshot : ReplyFits alone books (known_after (take 11 rows)) (command.G
 fits-no_snapshot = record { over = λ shown. (ended, refl, refl); alone = λ one shown. refl }
 
 -- that it is over before the lane ended it, where no other lane is; and a read at it or its end after that
-early_end : ReplyFits alone books (known_after (take 10 rows)) (command.Gets 1 home a) (reply.Refused refusal.NoSnapshot) → ⊥
+early_end : ReplyFits alone books (known_after (take 10 rows)) (command.Gets 1 home a) (reply.Refused refusal.NoSnapshot)
+    → ⊥
 early_end h = absurd (let e = h.alone refl refl in cc)
 
 read_after : ReplyFits first_of_two books (known_after (take 11 rows)) (command.Gets 1 home a) (reply.Found one 1 4) → ⊥

@@ -17,7 +17,8 @@ pub record KnowsAll (s : Setting) (books : Books) (k : Known) : Type 0 where
   pub own : OwnAre s.lane books k
   pub alone : s.lanes ≡ 1 → AllAreOwn books k
 
--- The reply fits the books that the command leaves, the lane knows them, and the journal has the write that was asked for.
+-- The reply fits the books that the command leaves, the lane knows them, and the journal has the write that was
+-- asked for.
 pub record Answers (s : Setting) (a b : Books) (k : Known) (c : Command) (r : Reply) : Type 0 where
   pub fits : ReplyFits s b k c r
   pub still : KnowsAll s b (learn k c r)

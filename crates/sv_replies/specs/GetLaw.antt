@@ -11,7 +11,8 @@ use Rattle.sv_replies.specs.Settings.{Setting}
 use Rattle.sv_replies.specs.Unread.{IsFoundUnread}
 
 -- a read of all that the lane had seen, through a SuperVersion no older than it was shown
-pub record Gets (s : Setting) (books : Books) (k : Known) (key : List ℕ) (found : Option (List ℕ)) (cut serial family : ℕ) : Type 0 where
+pub record Gets (s : Setting) (books : Books) (k : Known) (key : List ℕ) (found : Option (List ℕ))
+    (cut serial family : ℕ) : Type 0 where
   pub later : (k.families family).seen ≤ cut
   pub newer : (k.families family).serial ≤ serial
   pub within : cut ≤ length (of_family family books.journal)

@@ -17,7 +17,8 @@ pub record EndsAt (books : Books) (cut : ℕ) (s : SuperVersion) : Type 0 where
   pub frozen : Has (λ l. In s.descriptor.active l.members) books.lists
 
 -- A read through the SuperVersion of the pin: of all that the lane had seen, or up to where the SuperVersion ends.
-pub record GetsPinned (s : Setting) (books : Books) (k : Known) (key : List ℕ) (found : Option (List ℕ)) (cut serial : ℕ) (pin : Pinned) : Type 0 where
+pub record GetsPinned (s : Setting) (books : Books) (k : Known) (key : List ℕ) (found : Option (List ℕ))
+    (cut serial : ℕ) (pin : Pinned) : Type 0 where
   pub serial_is : serial ≡ pin.serial
   pub later : ((k.families pin.family).seen ≤ cut) ⊎ IsIn (EndsAt books cut) books.supers serial
   pub within : cut ≤ length (of_family pin.family books.journal)

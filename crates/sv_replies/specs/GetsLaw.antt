@@ -25,7 +25,8 @@ pub record CutsAt (books : Books) (family cut : ℕ) (x : Snapshot) : Type 0 whe
   pub within : x.at ≤ length books.journal
 
 -- A read at the snapshot's cut, through a SuperVersion no older than the lane was shown.
-pub record GetsAt (s : Setting) (books : Books) (k : Known) (snapshot : ℕ) (key : List ℕ) (found : Option (List ℕ)) (cut serial family : ℕ) : Type 0 where
+pub record GetsAt (s : Setting) (books : Books) (k : Known) (snapshot : ℕ) (key : List ℕ) (found : Option
+    (List ℕ)) (cut serial family : ℕ) : Type 0 where
   pub may : MayUse s k snapshot
   pub newer : (k.families family).serial ≤ serial
   pub through : IsIn (EndsFrom books family cut) books.supers serial

@@ -15,9 +15,12 @@ count_in family changes = length (filter (λ c. c.family == family) changes)
 
 -- the cut of a get is the number of its family's writes so far
 abbrev pub SeesAll : Known → List Change → Command → Reply → Type 0
-SeesAll k before (command.Get name key) (reply.Found value cut sv) = IsSomeAnd (k.handles name) (λ f. cut ≡ count_in f before)
-SeesAll k before (command.Get name key) (reply.Absent cut sv) = IsSomeAnd (k.handles name) (λ f. cut ≡ count_in f before)
+SeesAll k before (command.Get name key) (reply.Found value cut sv) =
+    IsSomeAnd (k.handles name) (λ f. cut ≡ count_in f before)
+SeesAll k before (command.Get name key) (reply.Absent cut sv) =
+    IsSomeAnd (k.handles name) (λ f. cut ≡ count_in f before)
 SeesAll k before command reply = Unit {0}
 
 abbrev pub GetsSeeAll : List Answered → Type 0
-GetsSeeAll all = (n : ℕ) (a : Answered) → slice_get all n ≡ Some a → SeesAll (known_after (take n all)) (accepted (take n all)) a.command a.reply
+GetsSeeAll all = (n : ℕ) (a : Answered) → slice_get all n ≡ Some a
+    → SeesAll (known_after (take n all)) (accepted (take n all)) a.command a.reply

@@ -4,6 +4,7 @@ pub mod CreateLaw
 pub mod DropLaw
 pub mod Due
 pub mod FlushLaw
+pub mod FrozenActives
 pub mod GetLaw
 pub mod GetpLaw
 pub mod GetsLaw

@@ -14,8 +14,10 @@ abbrev pub newest_unread : Books → ℕ → List ℕ → ℕ → Version → Op
 newest_unread books family key cut version =
     newest_op key (rows_of (drop (reach_of version.files) (take cut (of_family family books.journal))))
 
--- A write after those that the files of the SuperVersion cover decides; where it has no file, the first `cut` writes do.
-pub record FindsUnread (books : Books) (family : ℕ) (key : List ℕ) (found : Option (List ℕ)) (cut : ℕ) (s : SuperVersion) : Type 0 where
+-- A write after those that the files of the SuperVersion cover decides; where it has no file, the first `cut`
+-- writes do.
+pub record FindsUnread (books : Books) (family : ℕ) (key : List ℕ) (found : Option (List ℕ)) (cut : ℕ)
+    (s : SuperVersion) : Type 0 where
   pub version : Version
   pub at : entry books.versions s.descriptor.version ≡ Some version
   pub above : (o : Op) → newest_unread books family key cut version ≡ Some o → value_of o ≡ found
