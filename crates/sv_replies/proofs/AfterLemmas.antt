@@ -89,11 +89,13 @@ continues-length a b more = omega (arith, ap length more.1, length-append a more
 -- the writes of a family go on
 pub of_family-later : (a b : List Write) (family : ℕ) (more : Continues a b)
     → of_family family b ≡ of_family family a ++ of_family family more.0
-of_family-later a b family more = ap (of_family family) more.1 ∙ filter-append (λ (w : Write). w.family == family) a more.0
+of_family-later a b family more =
+    ap (of_family family) more.1 ∙ filter-append (λ (w : Write). w.family == family) a more.0
 
 pub count-later : (a b : List Write) (family : ℕ) → Continues a b
     → length (of_family family a) ≤ length (of_family family b)
-count-later a b family more = omega (arith, ap length (of_family-later a b family more), length-append (of_family family a) (of_family family more.0))
+count-later a b family more =
+    omega (arith, ap length (of_family-later a b family more), length-append (of_family family a) (of_family family more.0))
 
 borne-later : (a b : List Write) (mem : ℕ) → Continues a b → length (borne_by mem a) ≤ length (borne_by mem b)
 borne-later a b mem more =
@@ -164,13 +166,16 @@ named_keeps : (name : List ℕ) (x y : _) → KeepsFamily x y → x.name ≡ nam
 named_keeps name x y kept is = kept.name ∙ is
 
 pub named-later : (a b : Books) (id : ℕ) (name : List ℕ) → After a b → IsNamed a id name → IsNamed b id name
-named-later a b id name after h = at-register KeepsFamily (λ x. x.name ≡ name) (λ x. x.name ≡ name) (named_keeps name) a.families b.families id after.families h
+named-later a b id name after h =
+    at-register KeepsFamily (λ x. x.name ≡ name) (λ x. x.name ≡ name) (named_keeps name) a.families b.families id after.families h
 
 pub taken-later : (a b : Books) (name : List ℕ) → After a b → IsTaken a name → IsTaken b name
-taken-later a b name after h = has-later KeepsFamily (λ x. x.name ≡ name) (λ x. x.name ≡ name) (named_keeps name) a.families b.families after.families h
+taken-later a b name after h =
+    has-later KeepsFamily (λ x. x.name ≡ name) (λ x. x.name ≡ name) (named_keeps name) a.families b.families after.families h
 
 pub dropped-later : (a b : Books) (id : ℕ) → After a b → WasDropped a id → WasDropped b id
-dropped-later a b id after h = at-register KeepsFamily (λ x. x.dropped ≡ true) (λ x. x.dropped ≡ true) (λ x y kept is. kept.dropped is) a.families b.families id after.families h
+dropped-later a b id after h =
+    at-register KeepsFamily (λ x. x.dropped ≡ true) (λ x. x.dropped ≡ true) (λ x y kept is. kept.dropped is) a.families b.families id after.families h
 
 pub of-later : (a b : Books) (family serial : ℕ) → After a b → IsIn (IsOf family) a.supers serial
     → IsIn (IsOf family) b.supers serial
@@ -181,7 +186,8 @@ of-later a b family serial after h =
 
 captured_keeps : (family number : ℕ) (x y : RegisteredFile) → KeepsNumber x y → IsCapturedFor family number x
     → IsCapturedFor family number y
-captured_keeps family number x y kept h = record { number_is = kept.number ∙ h.number_is; family_is = kept.family ∙ h.family_is }
+captured_keeps family number x y kept h =
+    record { number_is = kept.number ∙ h.number_is; family_is = kept.family ∙ h.family_is }
 
 pub captured-later : (a b : Books) (family number : ℕ) → After a b → WasCapturedFor a family number
     → WasCapturedFor b family number
@@ -216,7 +222,8 @@ one_family b once n f g p q =
 
 begins_keeps : (family first : ℕ) → (x y : _) → KeepsMemtable x y → BeginsFrom family first x
     → BeginsFrom family first y
-begins_keeps family first x y kept h = record { family_is = kept.family ∙ h.family_is; from = omega (arith, kept.first, h.from) }
+begins_keeps family first x y kept h =
+    record { family_is = kept.family ∙ h.family_is; from = omega (arith, kept.first, h.from) }
 
 pub stalled-later : (a b : Books) (family flushed : ℕ) → After a b → WasStalled a family flushed
     → WasStalled b family flushed

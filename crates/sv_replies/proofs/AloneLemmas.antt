@@ -54,7 +54,8 @@ alone-snap a b k n h number own = record {
   where
     pushed : (m : ℕ) (x : Snapshot) → entry b.snapshots m ≡ Some x
         → (entry a.snapshots m ≡ Some x) ⊎ ((m ≡ length a.snapshots + 1) × (x ≡ record { at = length a.journal; live = true }))
-    pushed m x at = entry_push a.snapshots (record { at = length a.journal; live = true }) m x (ap (λ (z : Books). entry z.snapshots m) (sym h.is) ∙ at)
+    pushed m x at =
+        entry_push a.snapshots (record { at = length a.journal; live = true }) m x (ap (λ (z : Books). entry z.snapshots m) (sym h.is) ∙ at)
 
 -- ---- and ended
 
@@ -74,7 +75,8 @@ alone-unsnap a b k n x h own = record {
   where
     changed : (m : ℕ) (y : Snapshot) → entry b.snapshots m ≡ Some y
         → ((m ≡ n) × (y ≡ record x { live = false })) ⊎ ((m ≢ n) × (entry a.snapshots m ≡ Some y))
-    changed m y at = entry_change a.snapshots n m (record x { live = false }) y (ap (λ (z : Books). entry z.snapshots m) (sym h.is) ∙ at)
+    changed m y at =
+        entry_change a.snapshots n m (record x { live = false }) y (ap (λ (z : Books). entry z.snapshots m) (sym h.is) ∙ at)
 
 -- ---- a hold begins or ends
 

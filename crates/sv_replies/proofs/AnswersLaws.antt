@@ -55,7 +55,8 @@ pub record KeepsAll (lane : ℕ) (a b : Books) : Type 0 where
 pub keeps-books : (lane : ℕ) (a b : Books) → b.families ≡ a.families → b.files.holds ≡ a.files.holds
     → b.journal ≡ a.journal
     → b.snapshots ≡ a.snapshots → KeepsAll lane a b
-keeps-books lane a b families holds journal snapshots = record { own = keeps-all lane a b families holds journal; snapshots = snapshots; holds = holds }
+keeps-books lane a b families holds journal snapshots =
+    record { own = keeps-all lane a b families holds journal; snapshots = snapshots; holds = holds }
 
 pub keeps-same : (lane : ℕ) (a : Books) → KeepsAll lane a a
 keeps-same lane a = keeps-books lane a a refl refl refl refl
@@ -87,7 +88,8 @@ touch-same k (Some f) = record { handles = refl; holds = refl; accepted = refl; 
 refused-same : (k : Known) (c : Command) (e : Refusal) → SameOwn k (learn k c (reply.Refused e))
 refused-same k (command.Get name key) e = touch-same k (k.handles name)
 refused-same k (command.Pin name) e = touch-same k (k.handles name)
-refused-same k command.Rest e = record { handles = refl; holds = refl; accepted = refl; ended = refl; snapshots = λ n q. q }
+refused-same k command.Rest e =
+    record { handles = refl; holds = refl; accepted = refl; ended = refl; snapshots = λ n q. q }
 refused-same k c e = same-known k
 
 refused-knows : (b : Books) (k : Known) (c : Command) (e : Refusal) → Knows b k → Knows b (learn k c (reply.Refused e))
@@ -146,8 +148,10 @@ module _ (s : Setting) (a b : Books) (k : Known) (f : ℕ) (w : Write) (h : Know
 -- ---- reads, which may leave other books where a reference goes
 
 pub read-same : (k : Known) (f : ℕ) (r : Reply) → SameOwn k (read (Some f) r k)
-read-same k f (reply.Found value cut sv) = record { handles = refl; holds = refl; accepted = refl; ended = refl; snapshots = λ n e. e }
-read-same k f (reply.Absent cut sv) = record { handles = refl; holds = refl; accepted = refl; ended = refl; snapshots = λ n e. e }
+read-same k f (reply.Found value cut sv) =
+    record { handles = refl; holds = refl; accepted = refl; ended = refl; snapshots = λ n e. e }
+read-same k f (reply.Absent cut sv) =
+    record { handles = refl; holds = refl; accepted = refl; ended = refl; snapshots = λ n e. e }
 read-same k f r = same-known k
 
 pub same-on : (k l m : Known) → SameOwn k l → SameOwn l m → SameOwn k m
@@ -173,7 +177,8 @@ pub get-answers : (s : Setting) (a b : Books) (k : Known) (name key : List ℕ) 
     → Answers s a b k (command.Get name key) (read_reply found cut sv)
 get-answers s a b k name key f found cut sv h after keeps has none gets of = record {
   fits = get-fits s b k name key f found cut sv has none gets;
-  still = all-kept s a b k (learn k (command.Get name key) (read_reply found cut sv)) keeps (get-same k name key f (read_reply found cut sv) has)
+  still =
+      all-kept s a b k (learn k (command.Get name key) (read_reply found cut sv)) keeps (get-same k name key f (read_reply found cut sv) has)
       (get-knows b k name key f (read_reply found cut sv) (knows-later a b k after h.knows) has (shows-read b f found cut sv (record { within = gets.within; of = of }))) h;
   asked = none-asked s a b k (command.Get name key) (read_reply found cut sv) keeps.own.writes (asks found);
 }
@@ -186,7 +191,8 @@ get-answers s a b k name key f found cut sv h after keeps has none gets of = rec
 
 learnt-same : (k : Known) (more : FamilyKnown → FamilyKnown) (f number : ℕ)
     → SameOwn k (file_made number (learns more (Some f) k))
-learnt-same k more f number = record { handles = refl; holds = refl; accepted = refl; ended = refl; snapshots = λ n e. e }
+learnt-same k more f number =
+    record { handles = refl; holds = refl; accepted = refl; ended = refl; snapshots = λ n e. e }
 
 module _ (s : Setting) (a b : Books) (k : Known) (f : ℕ) (file : FileMeta) (sound : Sound a) (h : KnowsAll s a k) (after : After a b) (name : List ℕ) (has : k.handles name ≡ Some f) where
   pub flush-answers : IsFlushed a b f file → IsPlannedFor k f file → due k (command.Flush name) ≡ None

@@ -42,7 +42,8 @@ module _ (s : Setting) (a b : Books) (k : Known) (h : KnowsAll s a k) (after : A
     fits = create-fits a b r is s k name id h.knows own.name_is free number;
     still = record {
       knows = create-knows a b r is k name id after h.knows own.name_is number;
-      own = own-kept s.lane b b (has_handle name id k) (learn k (command.Create name) (reply.Create id)) (keeps-all s.lane b b refl refl refl) refl refl refl
+      own =
+          own-kept s.lane b b (has_handle name id k) (learn k (command.Create name) (reply.Create id)) (keeps-all s.lane b b refl refl refl) refl refl refl
           (subst (λ n. OwnAre s.lane b (has_handle name n k)) (sym number) (own-create s.lane a b k h.own name free r is own));
       alone = λ one. alone-kept a b k (learn k (command.Create name) (reply.Create id)) (ap (λ (x : Books). x.snapshots) is.is) (ap (λ (x : Books). x.files.holds) is.is) refl (λ n e. e) refl (h.alone one);
     };

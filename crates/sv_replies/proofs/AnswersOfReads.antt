@@ -27,8 +27,10 @@ use Rattle.sv_replies.proofs.LearnLaws.{of_handle}
 use Rattle.sv_replies.proofs.SnapLemmas.{ShowsSerial, gets-fits, gets-knows}
 
 read_at-same : (k : Known) (n f : ℕ) (r : Reply) → SameOwn k (read_at n (Some f) r k)
-read_at-same k n f (reply.Found value cut sv) = record { handles = refl; holds = refl; accepted = refl; ended = refl; snapshots = λ m e. still_true k.snapshots n m e }
-read_at-same k n f (reply.Absent cut sv) = record { handles = refl; holds = refl; accepted = refl; ended = refl; snapshots = λ m e. still_true k.snapshots n m e }
+read_at-same k n f (reply.Found value cut sv) =
+    record { handles = refl; holds = refl; accepted = refl; ended = refl; snapshots = λ m e. still_true k.snapshots n m e }
+read_at-same k n f (reply.Absent cut sv) =
+    record { handles = refl; holds = refl; accepted = refl; ended = refl; snapshots = λ m e. still_true k.snapshots n m e }
 read_at-same k n f r = record { handles = refl; holds = refl; accepted = refl; ended = refl; snapshots = λ m e. e }
 
 shows-serial : (b : Books) (f : ℕ) (found : Option (List ℕ)) (cut sv : ℕ) → IsIn (IsOf f) b.supers sv

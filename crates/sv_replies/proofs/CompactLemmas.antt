@@ -35,10 +35,12 @@ module _ (a b : Books) (f : ℕ) (file : FileMeta) (sound : Sound a) (h : IsComp
   versions-are = ap (λ (x : Books). x.versions) h.is
 
   output : IsOutput b f file
-  output = is-output a b f file h.settled (file ∷ []) true h.covered (ap (λ (x : Books). x.metas) h.is) (record { at = 0; is = refl }) versions-are
+  output =
+      is-output a b f file h.settled (file ∷ []) true h.covered (ap (λ (x : Books). x.metas) h.is) (record { at = 0; is = refl }) versions-are
 
   file_is : file ≡ record { number = file.number; from = file.from; to = file.to; bottom = record { last = true; cuts = file.bottom.cuts } }
-  file_is = λ i. record { number = file.number; from = file.from; to = file.to; bottom = record { last = h.kind i; cuts = file.bottom.cuts } }
+  file_is =
+      λ i. record { number = file.number; from = file.from; to = file.to; bottom = record { last = h.kind i; cuts = file.bottom.cuts } }
 
   named : Describes a.journal a.memtables a.lists a.versions a.files.numbers a.metas h.c.descriptor
   named = says a sound f h.s h.c h.is_open
@@ -69,7 +71,8 @@ module _ (a b : Books) (f : ℕ) (file : FileMeta) (sound : Sound a) (h : IsComp
       → k.handles name ≡ Some f
       → due k (command.Compact name) ≡ None
       → ReplyFits s b k (command.Compact name) (reply.Compact file.number file.from file.to)
-  compact-fits s k name knows newer has none = (none, through (k.handles name) f (Compacts b k file.number file.from file.to) has (compacts k knows newer))
+  compact-fits s k name knows newer has none =
+      (none, through (k.handles name) f (Compacts b k file.number file.from file.to) has (compacts k knows newer))
 
   pub compact-knows : (k : Known) (name : List ℕ) → After a b → Knows a k → k.handles name ≡ Some f
       → Knows b (learn k (command.Compact name) (reply.Compact file.number file.from file.to))

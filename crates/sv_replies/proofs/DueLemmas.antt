@@ -71,11 +71,13 @@ module _ (k : Known) (name : List ℕ) where
 
   pub get-free : (key : List ℕ) (f : ℕ) → key_fault (length key) ≡ None → k.handles name ≡ Some f
       → due k (command.Get name key) ≡ None
-  get-free key f at has = first-next (key_cause key) (handle_cause k name ∷ []) (key-free key at) ∙ first-next (handle_cause k name) [] (handle-free f has)
+  get-free key f at has =
+      first-next (key_cause key) (handle_cause k name ∷ []) (key-free key at) ∙ first-next (handle_cause k name) [] (handle-free f has)
 
   pub gets-free : (n : ℕ) (key : List ℕ) (f : ℕ) → key_fault (length key) ≡ None → k.handles name ≡ Some f
       → due k (command.Gets n name key) ≡ None
-  gets-free n key f at has = first-next (key_cause key) (handle_cause k name ∷ []) (key-free key at) ∙ first-next (handle_cause k name) [] (handle-free f has)
+  gets-free n key f at has =
+      first-next (key_cause key) (handle_cause k name ∷ []) (key-free key at) ∙ first-next (handle_cause k name) [] (handle-free f has)
 
   pub flush-due : (f : ℕ) → k.handles name ≡ Some f → due k (command.Flush name) ≡ first_of (dropped_cause k name ∷ [])
   flush-due f has = first-next (handle_cause k name) (dropped_cause k name ∷ []) (handle-free f has)
@@ -97,10 +99,12 @@ module _ (k : Known) (name : List ℕ) where
       ∙ first-next (handle_cause k name) (dropped_cause k name ∷ []) (handle-free f has)
 
   pub release-free : (f : ℕ) → default_cause name ≡ None → k.handles name ≡ Some f → due k (command.Release name) ≡ None
-  release-free f other has = first-next (default_cause name) (handle_cause k name ∷ []) other ∙ first-next (handle_cause k name) [] (handle-free f has)
+  release-free f other has =
+      first-next (default_cause name) (handle_cause k name ∷ []) other ∙ first-next (handle_cause k name) [] (handle-free f has)
 
   pub pin-free : (f : ℕ) → k.handles name ≡ Some f → pins_cause k ≡ None → due k (command.Pin name) ≡ None
-  pin-free f has room = first-next (handle_cause k name) (pins_cause k ∷ []) (handle-free f has) ∙ first-next (pins_cause k) [] room
+  pin-free f has room =
+      first-next (handle_cause k name) (pins_cause k ∷ []) (handle-free f has) ∙ first-next (pins_cause k) [] room
 
   -- ---- with a handle, of a family that is not dropped or that is
 
@@ -116,7 +120,8 @@ module _ (k : Known) (name : List ℕ) where
   dropped-fits s b c f is has met = by (k.families f).dropped refl
     where
       by : (d : Bool) → (k.families f).dropped ≡ d → ReplyFits s b k c (reply.Refused refusal.Dropped)
-      by true itself = fits_due s b k c (refuses refusal.Dropped) refusal.Dropped (is ∙ first-here (dropped_cause k name) [] (refuses refusal.Dropped) (dropped-is f true has itself)) (λ e. absurd (cc)) refl
+      by true itself =
+          fits_due s b k c (refuses refusal.Dropped) refusal.Dropped (is ∙ first-here (dropped_cause k name) [] (refuses refusal.Dropped) (dropped-is f true has itself)) (λ e. absurd (cc)) refl
       by false other = fits_met s b k c refusal.Dropped (stands-free c f is has other) met
 
   -- ---- without a handle
@@ -124,12 +129,14 @@ module _ (k : Known) (name : List ℕ) where
   pub not_open-fits : (s : Setting) (b : Books) (c : Command) → due k c ≡ Some (no_handle name)
       → Has (IsStanding name) b.families
       → ReplyFits s b k c (reply.Refused refusal.NotOpen)
-  not_open-fits s b c is stands = fits_due s b k c (no_handle name) refusal.NotOpen is (λ e. absurd (cc)) (stands.0, stands.1, stands.2, stands.3.name_is)
+  not_open-fits s b c is stands =
+      fits_due s b k c (no_handle name) refusal.NotOpen is (λ e. absurd (cc)) (stands.0, stands.1, stands.2, stands.3.name_is)
 
   pub no_family-fits : (s : Setting) (b : Books) (c : Command) → Knows b k → due k c ≡ Some (no_handle name)
       → (Has (IsStanding name) b.families → ⊥)
       → ReplyFits s b k c (reply.Refused refusal.NoFamily)
-  no_family-fits s b c knows is none = fits_due s b k c (no_handle name) refusal.NoFamily is (λ e. absurd (cc)) (none_stands b k name knows none)
+  no_family-fits s b c knows is none =
+      fits_due s b k c (no_handle name) refusal.NoFamily is (λ e. absurd (cc)) (none_stands b k name knows none)
 
 -- ---- what the books say of the handle
 
@@ -152,4 +159,5 @@ known-stands b k f x knows at stands = by (k.families f).dropped refl
   where
     by : (d : Bool) → (k.families f).dropped ≡ d → (k.families f).dropped ≡ false
     by false e = e
-    by true e = absurd (let y = (knows.families f).dropped e in let q : true ≡ false = sym y.2 ∙ ap (λ (z : Family). z.dropped) (some (sym y.1 ∙ at)) ∙ stands in cc)
+    by true e =
+        absurd (let y = (knows.families f).dropped e in let q : true ≡ false = sym y.2 ∙ ap (λ (z : Family). z.dropped) (some (sym y.1 ∙ at)) ∙ stands in cc)

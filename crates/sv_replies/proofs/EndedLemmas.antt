@@ -50,13 +50,17 @@ module _ (n : ℕ) where
   ended_step : (k : Known) (c : Command) (r : Reply) → Ended k c r
   ended_step k (command.Put name key value) (reply.Put m) e = inl (sym (same_wrote (k.handles name) m k) ∙ e)
   ended_step k (command.Delete name key) (reply.Delete m) e = inl (sym (same_wrote (k.handles name) m k) ∙ e)
-  ended_step k (command.Get name key) r e = inl (sym (same_touches (k.handles name) (read (k.handles name) r k) ∙ same_read (k.handles name) r k) ∙ e)
+  ended_step k (command.Get name key) r e =
+      inl (sym (same_touches (k.handles name) (read (k.handles name) r k) ∙ same_read (k.handles name) r k) ∙ e)
   ended_step k (command.Getp pin key) r e = inl (sym (same_read (family_of_pin (k.pins pin)) r k) ∙ e)
   ended_step k (command.Gets m name key) r e = inl (sym (same_read_at m (k.handles name) r k) ∙ e)
-  ended_step k (command.Flush name) (reply.Flush number from to) e = inl (sym (same_learns (flushed_to to) (k.handles name) k) ∙ e)
-  ended_step k (command.Compact name) (reply.Compact number from to) e = inl (sym (same_learns (reached_to to) (k.handles name) k) ∙ e)
+  ended_step k (command.Flush name) (reply.Flush number from to) e =
+      inl (sym (same_learns (flushed_to to) (k.handles name) k) ∙ e)
+  ended_step k (command.Compact name) (reply.Compact number from to) e =
+      inl (sym (same_learns (reached_to to) (k.handles name) k) ∙ e)
   ended_step k (command.Drop name) reply.Drop e = inl (sym (same_learns as_dropped (k.handles name) k) ∙ e)
-  ended_step k (command.Set name option value) (reply.Set sv) e = inl (sym (same_learns (met sv) (k.handles name) k) ∙ e)
+  ended_step k (command.Set name option value) (reply.Set sv) e =
+      inl (sym (same_learns (met sv) (k.handles name) k) ∙ e)
   ended_step k (command.Pin name) (reply.Pin pin sv) e =
       inl (sym (same_touches (k.handles name) (pinned (k.handles name) pin sv (learns (met sv) (k.handles name) k)) ∙ same_pinned (k.handles name) pin sv (learns (met sv) (k.handles name) k) ∙ same_learns (met sv) (k.handles name) k) ∙ e)
   ended_step k (command.Pin name) r e = inl (sym (same_touches (k.handles name) k) ∙ e)

@@ -112,7 +112,8 @@ knows-pins b k pin o h of = record {
 
 module _ (a b : Books) (r : Family) (h : IsFamilyMade a b r) where
   made-named : (name : List ℕ) → r.name ≡ name → IsNamed b (length a.families) name
-  made-named name is = (r, ap (λ (x : Books). slice_get x.families (length a.families)) h.is ∙ (placed-push a.families r).here, is)
+  made-named name is =
+      (r, ap (λ (x : Books). slice_get x.families (length a.families)) h.is ∙ (placed-push a.families r).here, is)
 
   pub create-fits : (s : Setting) (k : Known) (name : List ℕ) (id : ℕ) → Knows a k → r.name ≡ name
       → k.handles name ≡ None
@@ -223,7 +224,8 @@ pub pin-fits : (s : Setting) (b : Books) (k : Known) (name : List ℕ) (f pin sv
     → due k (command.Pin name) ≡ None
     → free_pin k ≡ Some pin → (k.families f).serial ≤ sv → IsIn (IsOf f) b.supers sv
     → ReplyFits s b k (command.Pin name) (reply.Pin pin sv)
-pin-fits s b k name f pin sv has none least newer of = (none, through (k.handles name) f (Pins b k pin sv) has (record { least = least; newer = newer; of = of }))
+pin-fits s b k name f pin sv has none least newer of =
+    (none, through (k.handles name) f (Pins b k pin sv) has (record { least = least; newer = newer; of = of }))
 
 pin_item : (p q : Pinned) → Some p ≡ Some q → p ≡ q
 pin_item p q e = cc

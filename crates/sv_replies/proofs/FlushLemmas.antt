@@ -40,11 +40,13 @@ module _ (a b : Books) (f : ℕ) (file : FileMeta) (sound : Sound a) (h : IsFlus
   versions-are = ap (λ (x : Books). x.versions) h.is
 
   output : IsOutput b f file
-  output = is-output a b f file h.settled (h.version.files ++ file ∷ []) true h.covered (ap (λ (x : Books). x.metas) h.is)
+  output =
+      is-output a b f file h.settled (h.version.files ++ file ∷ []) true h.covered (ap (λ (x : Books). x.metas) h.is)
       (in-right file h.version.files (file ∷ []) (record { at = 0; is = refl })) versions-are
 
   file_is : file ≡ record { number = file.number; from = file.from; to = file.to; bottom = record { last = false; cuts = file.bottom.cuts } }
-  file_is = λ i. record { number = file.number; from = file.from; to = file.to; bottom = record { last = h.kind i; cuts = file.bottom.cuts } }
+  file_is =
+      λ i. record { number = file.number; from = file.from; to = file.to; bottom = record { last = h.kind i; cuts = file.bottom.cuts } }
 
   flushes : (k : Known) → IsPlannedFor k f file → Flushes b k file.number file.from file.to f
   flushes k planned = record {
@@ -58,7 +60,8 @@ module _ (a b : Books) (f : ℕ) (file : FileMeta) (sound : Sound a) (h : IsFlus
   pub flush-fits : (s : Setting) (k : Known) (name : List ℕ) → IsPlannedFor k f file → k.handles name ≡ Some f
       → due k (command.Flush name) ≡ None
       → ReplyFits s b k (command.Flush name) (reply.Flush file.number file.from file.to)
-  flush-fits s k name planned has none = (none, through (k.handles name) f (Flushes b k file.number file.from file.to) has (flushes k planned))
+  flush-fits s k name planned has none =
+      (none, through (k.handles name) f (Flushes b k file.number file.from file.to) has (flushes k planned))
 
   pub flush-knows : (k : Known) (name : List ℕ) → After a b → Knows a k → k.handles name ≡ Some f
       → Knows b (learn k (command.Flush name) (reply.Flush file.number file.from file.to))

@@ -32,10 +32,12 @@ listed-later a b m goes h =
     has-later KeepsList (λ l. In m l.members) (λ l. In m l.members) (λ x y kept it. subst (λ (ms : List ℕ). In m ms) (sym kept.members) it) a.lists b.lists goes h
 
 same-lists : (a b : Books) → b.lists ≡ a.lists → GoesOn KeepsList a.lists b.lists
-same-lists a b same = subst (λ (l : List MemtableList). GoesOn KeepsList a.lists l) (sym same) (goes-same KeepsList a.lists list-itself)
+same-lists a b same =
+    subst (λ (l : List MemtableList). GoesOn KeepsList a.lists l) (sym same) (goes-same KeepsList a.lists list-itself)
 
 more-lists : (a b : Books) (l : MemtableList) → b.lists ≡ a.lists ++ l ∷ [] → GoesOn KeepsList a.lists b.lists
-more-lists a b l more = subst (λ (z : List MemtableList). GoesOn KeepsList a.lists z) (sym more) (goes-push KeepsList a.lists l list-itself)
+more-lists a b l more =
+    subst (λ (z : List MemtableList). GoesOn KeepsList a.lists z) (sym more) (goes-push KeepsList a.lists l list-itself)
 
 module _ (a b : Books) (frozen : ActivesAreFrozen a) where
   -- no SuperVersion is made, and each current was one
@@ -51,7 +53,8 @@ module _ (a b : Books) (frozen : ActivesAreFrozen a) where
       (λ listed. inr (subst (λ m. WasListed b m) (sym active) (listed-later a b y.0.descriptor.active goes listed)))
       (frozen n y.0 y.1 s d.0 (subst (λ f. IsCurrent a.tops a.supers f s d.0) (ap (λ (z : Descriptor). z.family) y.2) d.1))
 
-  same_supers : b.supers ≡ a.supers → (n : ℕ) (x : SuperVersion) → entry b.supers n ≡ Some x → (y : SuperVersion) × (entry a.supers n ≡ Some y) × (x.descriptor ≡ y.descriptor)
+  same_supers : b.supers ≡ a.supers → (n : ℕ) (x : SuperVersion) → entry b.supers n ≡ Some x
+      → (y : SuperVersion) × (entry a.supers n ≡ Some y) × (x.descriptor ≡ y.descriptor)
   same_supers same n x at = (x, ap (λ (l : List SuperVersion). entry l n) (sym same) ∙ at, refl)
 
   -- nor do the tops change
@@ -62,7 +65,8 @@ module _ (a b : Books) (frozen : ActivesAreFrozen a) where
       (same-lists a b lists)
 
   -- a family's current ends
-  pub ends : (g : ℕ) (t : Top) → slice_get a.tops g ≡ Some t → b.supers ≡ a.supers → b.tops ≡ slice_set a.tops g (record t { current = None }) → b.lists ≡ a.lists → ActivesAreFrozen b
+  pub ends : (g : ℕ) (t : Top) → slice_get a.tops g ≡ Some t → b.supers ≡ a.supers
+      → b.tops ≡ slice_set a.tops g (record t { current = None }) → b.lists ≡ a.lists → ActivesAreFrozen b
   ends g t at supers tops lists =
       let placed : IsPlaced a.tops b.tops g (record t { current = None }) = subst (λ (l : List Top). IsPlaced a.tops l g (record t { current = None })) (sym tops) (placed-set a.tops g t (record t { current = None }) at) in
       kept (same_supers supers)
@@ -79,7 +83,8 @@ module _ (a b : Books) (sound : Sound a) (frozen : ActivesAreFrozen a) (f : ℕ)
     (of : y.descriptor.family ≡ f) (goes : GoesOn KeepsList a.lists b.lists)
     (before : (n : ℕ) (x : SuperVersion) → entry a.supers n ≡ Some x → x.descriptor.family ≡ f
     → (x.descriptor.active ≡ y.descriptor.active) ⊎ WasListed b x.descriptor.active) where
-  made : (n : ℕ) (x : SuperVersion) → entry b.supers n ≡ Some x → (entry a.supers n ≡ Some x) ⊎ ((n ≡ length a.supers + 1) × (x ≡ y))
+  made : (n : ℕ) (x : SuperVersion) → entry b.supers n ≡ Some x
+      → (entry a.supers n ≡ Some x) ⊎ ((n ≡ length a.supers + 1) × (x ≡ y))
   made n x at = entry_push a.supers y n x (ap (λ (l : List SuperVersion). entry l n) (sym supers) ∙ at)
 
   -- the family's current is the new one
@@ -90,7 +95,8 @@ module _ (a b : Books) (sound : Sound a) (frozen : ActivesAreFrozen a) (f : ℕ)
       some (sym is.has ∙ ap (entry b.supers) serial ∙ ap (λ (l : List SuperVersion). entry l (length a.supers + 1)) supers ∙ entry-new a.supers y (length a.supers + 1) refl)
 
   -- that of another family is as it was
-  current_else : (g s : ℕ) (c : SuperVersion) → g ≢ f → IsCurrent b.tops b.supers g s c → IsCurrent a.tops a.supers g s c
+  current_else : (g s : ℕ) (c : SuperVersion) → g ≢ f → IsCurrent b.tops b.supers g s c
+      → IsCurrent a.tops a.supers g s c
   current_else g s c away is =
       let at : slice_get a.tops g ≡ Some is.top = sym (placed.others g away) ∙ is.at in
       let it = (current-top a sound.lawful g s is.top at is.is).2 in
@@ -124,14 +130,17 @@ module _ (a b : Books) (sound : Sound a) (frozen : ActivesAreFrozen a) (f : ℕ)
 
 module _ (a b : Books) (sound : Sound a) (frozen : ActivesAreFrozen a) where
   -- what was so of a family's SuperVersions, over its current
-  over_current : (f s : ℕ) (c : SuperVersion) → IsCurrent a.tops a.supers f s c → GoesOn KeepsList a.lists b.lists → (n : ℕ) (x : SuperVersion)
-      → entry a.supers n ≡ Some x → x.descriptor.family ≡ f → (x.descriptor.active ≡ c.descriptor.active) ⊎ WasListed b x.descriptor.active
+  over_current : (f s : ℕ) (c : SuperVersion) → IsCurrent a.tops a.supers f s c → GoesOn KeepsList a.lists b.lists
+      → (n : ℕ) (x : SuperVersion)
+      → entry a.supers n ≡ Some x → x.descriptor.family ≡ f
+      → (x.descriptor.active ≡ c.descriptor.active) ⊎ WasListed b x.descriptor.active
   over_current f s c is goes n x at of = ⊎_elim
       (λ same. inl same)
       (λ listed. inr (listed-later a b x.descriptor.active goes listed))
       (frozen n x at s c (subst (λ g. IsCurrent a.tops a.supers g s c) (sym of) is))
 
-  set_top : (f : ℕ) (t top : Top) → slice_get a.tops f ≡ Some t → b.tops ≡ slice_set a.tops f top → IsPlaced a.tops b.tops f top
+  set_top : (f : ℕ) (t top : Top) → slice_get a.tops f ≡ Some t → b.tops ≡ slice_set a.tops f top
+      → IsPlaced a.tops b.tops f top
   set_top f t top at tops = subst (λ (l : List Top). IsPlaced a.tops l f top) (sym tops) (placed-set a.tops f t top at)
 
   cleaned_kept : (s : ℕ) (x : SuperVersion) → IsCleaned a b s x → ActivesAreFrozen b
@@ -148,20 +157,34 @@ module _ (a b : Books) (sound : Sound a) (frozen : ActivesAreFrozen a) where
       h.lists.goes
 
   frozen_kept : Changes a b → ActivesAreFrozen b
-  frozen_kept (written f w h) = stands a b frozen (ap (λ (x : Books). x.supers) h.is) (ap (λ (x : Books). x.tops) h.is) (ap (λ (x : Books). x.lists) h.is)
-  frozen_kept (flush_begun f file h) = stands a b frozen (ap (λ (x : Books). x.supers) h.captured.is) (ap (λ (x : Books). x.tops) h.captured.is) (ap (λ (x : Books). x.lists) h.captured.is)
-  frozen_kept (merge_planned f file h) = stands a b frozen (ap (λ (x : Books). x.supers) h.captured.is) (ap (λ (x : Books). x.tops) h.captured.is) (ap (λ (x : Books). x.lists) h.captured.is)
-  frozen_kept (given_up f n h) = stands a b frozen (ap (λ (x : Books). x.supers) h.is) (ap (λ (x : Books). x.tops) h.is) (ap (λ (x : Books). x.lists) h.is)
-  frozen_kept (opened f lane h) = stands a b frozen (ap (λ (x : Books). x.supers) h.is) (ap (λ (x : Books). x.tops) h.is) (ap (λ (x : Books). x.lists) h.is)
-  frozen_kept (dropped f lane h) = stands a b frozen (ap (λ (x : Books). x.supers) h.is) (ap (λ (x : Books). x.tops) h.is) (ap (λ (x : Books). x.lists) h.is)
-  frozen_kept (released f lane h) = stands a b frozen (ap (λ (x : Books). x.supers) h.is) (ap (λ (x : Books). x.tops) h.is) (ap (λ (x : Books). x.lists) h.is)
-  frozen_kept (grabbed h) = stands a b frozen (ap (λ (x : Books). x.supers) h.is) (ap (λ (x : Books). x.tops) h.is) (ap (λ (x : Books). x.lists) h.is)
-  frozen_kept (stray n h) = stands a b frozen (ap (λ (x : Books). x.supers) h.is) (ap (λ (x : Books). x.tops) h.is) (ap (λ (x : Books). x.lists) h.is)
-  frozen_kept (held h) = stands a b frozen (ap (λ (x : Books). x.supers) h.is) (ap (λ (x : Books). x.tops) h.is) (ap (λ (x : Books). x.lists) h.is)
-  frozen_kept (snapped h) = stands a b frozen (ap (λ (x : Books). x.supers) h.is) (ap (λ (x : Books). x.tops) h.is) (ap (λ (x : Books). x.lists) h.is)
-  frozen_kept (unsnapped n x h) = stands a b frozen (ap (λ (z : Books). z.supers) h.is) (ap (λ (z : Books). z.tops) h.is) (ap (λ (z : Books). z.lists) h.is)
-  frozen_kept (retired f lane h) = ends a b frozen f h.top h.on (ap (λ (x : Books). x.supers) h.is) (ap (λ (x : Books). x.tops) h.is) (ap (λ (x : Books). x.lists) h.is)
-  frozen_kept (current_ended f h) = ends a b frozen f h.top h.on (ap (λ (x : Books). x.supers) h.is) (ap (λ (x : Books). x.tops) h.is) (ap (λ (x : Books). x.lists) h.is)
+  frozen_kept (written f w h) =
+      stands a b frozen (ap (λ (x : Books). x.supers) h.is) (ap (λ (x : Books). x.tops) h.is) (ap (λ (x : Books). x.lists) h.is)
+  frozen_kept (flush_begun f file h) =
+      stands a b frozen (ap (λ (x : Books). x.supers) h.captured.is) (ap (λ (x : Books). x.tops) h.captured.is) (ap (λ (x : Books). x.lists) h.captured.is)
+  frozen_kept (merge_planned f file h) =
+      stands a b frozen (ap (λ (x : Books). x.supers) h.captured.is) (ap (λ (x : Books). x.tops) h.captured.is) (ap (λ (x : Books). x.lists) h.captured.is)
+  frozen_kept (given_up f n h) =
+      stands a b frozen (ap (λ (x : Books). x.supers) h.is) (ap (λ (x : Books). x.tops) h.is) (ap (λ (x : Books). x.lists) h.is)
+  frozen_kept (opened f lane h) =
+      stands a b frozen (ap (λ (x : Books). x.supers) h.is) (ap (λ (x : Books). x.tops) h.is) (ap (λ (x : Books). x.lists) h.is)
+  frozen_kept (dropped f lane h) =
+      stands a b frozen (ap (λ (x : Books). x.supers) h.is) (ap (λ (x : Books). x.tops) h.is) (ap (λ (x : Books). x.lists) h.is)
+  frozen_kept (released f lane h) =
+      stands a b frozen (ap (λ (x : Books). x.supers) h.is) (ap (λ (x : Books). x.tops) h.is) (ap (λ (x : Books). x.lists) h.is)
+  frozen_kept (grabbed h) =
+      stands a b frozen (ap (λ (x : Books). x.supers) h.is) (ap (λ (x : Books). x.tops) h.is) (ap (λ (x : Books). x.lists) h.is)
+  frozen_kept (stray n h) =
+      stands a b frozen (ap (λ (x : Books). x.supers) h.is) (ap (λ (x : Books). x.tops) h.is) (ap (λ (x : Books). x.lists) h.is)
+  frozen_kept (held h) =
+      stands a b frozen (ap (λ (x : Books). x.supers) h.is) (ap (λ (x : Books). x.tops) h.is) (ap (λ (x : Books). x.lists) h.is)
+  frozen_kept (snapped h) =
+      stands a b frozen (ap (λ (x : Books). x.supers) h.is) (ap (λ (x : Books). x.tops) h.is) (ap (λ (x : Books). x.lists) h.is)
+  frozen_kept (unsnapped n x h) =
+      stands a b frozen (ap (λ (z : Books). z.supers) h.is) (ap (λ (z : Books). z.tops) h.is) (ap (λ (z : Books). z.lists) h.is)
+  frozen_kept (retired f lane h) =
+      ends a b frozen f h.top h.on (ap (λ (x : Books). x.supers) h.is) (ap (λ (x : Books). x.tops) h.is) (ap (λ (x : Books). x.lists) h.is)
+  frozen_kept (current_ended f h) =
+      ends a b frozen f h.top h.on (ap (λ (x : Books). x.supers) h.is) (ap (λ (x : Books). x.tops) h.is) (ap (λ (x : Books). x.lists) h.is)
   frozen_kept (cleaned s x h) = cleaned_kept s x h
   frozen_kept (option_set f o h) =
       let goes = same-lists a b (ap (λ (x : Books). x.lists) h.is) in
@@ -205,7 +228,8 @@ pub frozen-kept : (a b : Books) → Sound a → ActivesAreFrozen a → Changes a
 frozen-kept a b sound frozen changed = frozen_kept a b sound frozen changed
 
 abbrev first-super : SuperVersion
-first-super = record { descriptor = record { family = 0; active = 1; list = 1; version = 1; base = 0; options = first_options }; place = 0; live = true }
+first-super =
+    record { descriptor = record { family = 0; active = 1; list = 1; version = 1; base = 0; options = first_options }; place = 0; live = true }
 
 pub frozen-first : (next : ℕ) → ActivesAreFrozen (opening_books next)
 frozen-first next n x at s c is =

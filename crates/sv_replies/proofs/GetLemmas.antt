@@ -28,8 +28,10 @@ use Rattle.sv_replies.proofs.MetLaws.{through}
 pub get-fits : (s : Setting) (b : Books) (k : Known) (name key : List ℕ) (f : ℕ) (found : Option (List ℕ)) (cut sv : ℕ)
     → k.handles name ≡ Some f → due k (command.Get name key) ≡ None → Gets s b k key found cut sv f
     → ReplyFits s b k (command.Get name key) (read_reply found cut sv)
-get-fits s b k name key f (Some value) cut sv has none gets = (none, through (k.handles name) f (Gets s b k key (Some value) cut sv) has gets)
-get-fits s b k name key f None cut sv has none gets = (none, through (k.handles name) f (Gets s b k key None cut sv) has gets)
+get-fits s b k name key f (Some value) cut sv has none gets =
+    (none, through (k.handles name) f (Gets s b k key (Some value) cut sv) has gets)
+get-fits s b k name key f None cut sv has none gets =
+    (none, through (k.handles name) f (Gets s b k key None cut sv) has gets)
 
 pub get-knows : (b : Books) (k : Known) (name key : List ℕ) (f : ℕ) (r : Reply) → Knows b k → k.handles name ≡ Some f
     → ReadShows b f r

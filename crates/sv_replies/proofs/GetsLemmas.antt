@@ -55,10 +55,13 @@ current-gets_at b law f sv x current s k n y key found knows may at looked unrea
 pub getp-fits : (s : Setting) (b : Books) (k : Known) (pin : ℕ) (p : Pinned) (key : List ℕ) (found : Option (List ℕ)) (cut sv : ℕ)
     → k.pins pin ≡ Some p → due k (command.Getp pin key) ≡ None → GetsPinned s b k key found cut sv p
     → ReplyFits s b k (command.Getp pin key) (read_reply found cut sv)
-getp-fits s b k pin p key (Some value) cut sv has none gets = (none, through (k.pins pin) p (GetsPinned s b k key (Some value) cut sv) has gets)
-getp-fits s b k pin p key None cut sv has none gets = (none, through (k.pins pin) p (GetsPinned s b k key None cut sv) has gets)
+getp-fits s b k pin p key (Some value) cut sv has none gets =
+    (none, through (k.pins pin) p (GetsPinned s b k key (Some value) cut sv) has gets)
+getp-fits s b k pin p key None cut sv has none gets =
+    (none, through (k.pins pin) p (GetsPinned s b k key None cut sv) has gets)
 
 pub getp-knows : (b : Books) (k : Known) (pin : ℕ) (p : Pinned) (key : List ℕ) (r : Reply) → Knows b k
     → k.pins pin ≡ Some p
     → ReadShows b p.family r → Knows b (learn k (command.Getp pin key) r)
-getp-knows b k pin p key r knows has shown = subst (λ (z : Option Pinned). Knows b (read (family_of_pin z) r k)) (sym has) (knows-read b k p.family r knows shown)
+getp-knows b k pin p key r knows has shown =
+    subst (λ (z : Option Pinned). Knows b (read (family_of_pin z) r k)) (sym has) (knows-read b k p.family r knows shown)

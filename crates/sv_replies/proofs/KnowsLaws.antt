@@ -24,7 +24,8 @@ reach-later a b family upto after h =
     (at.0, at.1, omega (arith, h.2, at.2.reach))
 
 pub over-later : (a b : Books) (n : ℕ) → After a b → IsIn IsOver a.snapshots n → IsIn IsOver b.snapshots n
-over-later a b n after h = in-register KeepsSnapshot IsOver IsOver (λ x y kept is. kept.gone is) a.snapshots b.snapshots n after.snapshots h
+over-later a b n after h =
+    in-register KeepsSnapshot IsOver IsOver (λ x y kept is. kept.gone is) a.snapshots b.snapshots n after.snapshots h
 
 knows_family-later : (a b : Books) (f : ℕ) (x : FamilyKnown) → After a b → KnowsFamily a f x → KnowsFamily b f x
 knows_family-later a b f x after h = record {
@@ -123,7 +124,8 @@ max_more n m to le = omega (arith, le, le-max_left m to)
 
 module _ (b : Books) (f : ℕ) (x : FamilyKnown) (h : KnowsFamily b f x) where
   pub knows-saw : (n : ℕ) → n ≤ length (of_family f b.journal) → KnowsFamily b f (saw n x)
-  knows-saw n within = record { seen = max-le h.seen within; serial = h.serial; flushed = h.flushed; reached = h.reached; dropped = h.dropped }
+  knows-saw n within =
+      record { seen = max-le h.seen within; serial = h.serial; flushed = h.flushed; reached = h.reached; dropped = h.dropped }
 
   pub knows-met : (sv : ℕ) → IsIn (IsOf f) b.supers sv → KnowsFamily b f (met sv x)
   knows-met sv of = record {
@@ -153,4 +155,5 @@ module _ (b : Books) (f : ℕ) (x : FamilyKnown) (h : KnowsFamily b f x) where
   }
 
   pub knows-dropped : WasDropped b f → KnowsFamily b f (as_dropped x)
-  knows-dropped is = record { seen = h.seen; serial = h.serial; flushed = h.flushed; reached = h.reached; dropped = λ e. is }
+  knows-dropped is =
+      record { seen = h.seen; serial = h.serial; flushed = h.flushed; reached = h.reached; dropped = λ e. is }

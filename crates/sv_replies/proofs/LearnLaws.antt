@@ -62,7 +62,8 @@ ReadShows b f r = Unit {0}
 
 knows-both : (b : Books) (k : Known) (f cut sv : ℕ) → Knows b k → ReadsWithin b f cut sv
     → Knows b (learns (met sv) (Some f) (learns (saw cut) (Some f) k))
-knows-both b k f cut sv h shown = knows-serial b (learns (saw cut) (Some f) k) (knows-cut b k h f cut shown.within) f sv shown.of
+knows-both b k f cut sv h shown =
+    knows-serial b (learns (saw cut) (Some f) k) (knows-cut b k h f cut shown.within) f sv shown.of
 
 pub knows-read : (b : Books) (k : Known) (f : ℕ) (r : Reply) → Knows b k → ReadShows b f r → Knows b (read (Some f) r k)
 knows-read b k f (reply.Found value cut sv) h shown = knows-both b k f cut sv h shown

@@ -74,13 +74,15 @@ module _ (s : Setting) (a b : Books) (k : Known) (after : After a b) where
 
   merged-later : (family upto : ℕ) → WasMerged a family upto → WasMerged b family upto
   merged-later family upto (inl none) = inl none
-  merged-later family upto (inr found) = inr (found.0, record { reaches = reaches-later a b family upto found.0 after found.1.reaches; last = found.1.last })
+  merged-later family upto (inr found) =
+      inr (found.0, record { reaches = reaches-later a b family upto found.0 after found.1.reaches; last = found.1.last })
 
   named_dropped-later : (name : List ℕ) → NamedAreDropped a k name → NamedAreDropped b k name
   named_dropped-later name h = λ id is. dropped-later a b id after (h id is)
 
   known_number-later : (n : ℕ) → IsKnownNumber a n → IsKnownNumber b n
-  known_number-later n h = has-later KeepsNumber (λ f. f.number ≡ n) (λ f. f.number ≡ n) (λ x y kept is. kept.number ∙ is) a.files.numbers b.files.numbers after.numbers h
+  known_number-later n h =
+      has-later KeepsNumber (λ f. f.number ≡ n) (λ f. f.number ≡ n) (λ x y kept is. kept.number ∙ is) a.files.numbers b.files.numbers after.numbers h
 
   no_such-later : (n : ℕ) → NoSuch s a k n → NoSuch s b k n
   no_such-later n h = record { over = λ is. over-later a b n after (h.over is); alone = h.alone }
@@ -169,17 +171,26 @@ module _ (s : Setting) (a b : Books) (k : Known) (after : After a b) where
 
   -- of each command
   pub met-later : (c : Command) (e : Refusal) → Met s a k c e → Met s b k c e
-  met-later (command.Put name key value) e met = some_and (WriteMet a k e) (WriteMet b k e) (λ f h. write_met e f h) (k.handles name) met
-  met-later (command.Delete name key) e met = some_and (WriteMet a k e) (WriteMet b k e) (λ f h. write_met e f h) (k.handles name) met
-  met-later (command.Get name key) e met = some_and (ReadMet s a e) (ReadMet s b e) (λ f h. read_met e f h) (k.handles name) met
-  met-later (command.Getp pin key) e met = some_and (λ (p : Pinned). ReadMet s a e p.family) (λ (p : Pinned). ReadMet s b e p.family) (λ p h. read_met e p.family h) (k.pins pin) met
-  met-later (command.Gets n name key) e met = some_and (GetsMet s a k n e) (GetsMet s b k n e) (λ f h. gets_met n e f h) (k.handles name) met
-  met-later (command.Flush name) e met = some_and (FlushMet s a k e) (FlushMet s b k e) (λ f h. flush_met e f h) (k.handles name) met
-  met-later (command.Compact name) e met = some_and (CompactMet s a k e) (CompactMet s b k e) (λ f h. compact_met e f h) (k.handles name) met
+  met-later (command.Put name key value) e met =
+      some_and (WriteMet a k e) (WriteMet b k e) (λ f h. write_met e f h) (k.handles name) met
+  met-later (command.Delete name key) e met =
+      some_and (WriteMet a k e) (WriteMet b k e) (λ f h. write_met e f h) (k.handles name) met
+  met-later (command.Get name key) e met =
+      some_and (ReadMet s a e) (ReadMet s b e) (λ f h. read_met e f h) (k.handles name) met
+  met-later (command.Getp pin key) e met =
+      some_and (λ (p : Pinned). ReadMet s a e p.family) (λ (p : Pinned). ReadMet s b e p.family) (λ p h. read_met e p.family h) (k.pins pin) met
+  met-later (command.Gets n name key) e met =
+      some_and (GetsMet s a k n e) (GetsMet s b k n e) (λ f h. gets_met n e f h) (k.handles name) met
+  met-later (command.Flush name) e met =
+      some_and (FlushMet s a k e) (FlushMet s b k e) (λ f h. flush_met e f h) (k.handles name) met
+  met-later (command.Compact name) e met =
+      some_and (CompactMet s a k e) (CompactMet s b k e) (λ f h. compact_met e f h) (k.handles name) met
   met-later (command.Create name) e met = create_met name e met
   met-later (command.Open name) e met = open_met name e met
-  met-later (command.Drop name) e met = some_and (DropMet a e) (DropMet b e) (λ f h. drop_met e f h) (k.handles name) met
-  met-later (command.Set name option value) e met = some_and (SetMet a e) (SetMet b e) (λ f h. set_met e f h) (k.handles name) met
+  met-later (command.Drop name) e met =
+      some_and (DropMet a e) (DropMet b e) (λ f h. drop_met e f h) (k.handles name) met
+  met-later (command.Set name option value) e met =
+      some_and (SetMet a e) (SetMet b e) (λ f h. set_met e f h) (k.handles name) met
   met-later command.Purge e met = purge_met e met
   met-later command.Scan e met = scan_met e met
   met-later command.Snap e met = snap_met e met

@@ -105,7 +105,8 @@ module _ (a : Books) (f s : ℕ) (c : SuperVersion) (sound : Sound a) (o : IsOpe
   )
 
   abbrev first-of : List ℕ → Type 0
-  first-of members = (m : ℕ) × In m members × ((it : Memtable) × (entry a.memtables m ≡ Some it) × BeginsFrom f (k.families f).flushed it)
+  first-of members =
+      (m : ℕ) × In m members × ((it : Memtable) × (entry a.memtables m ≡ Some it) × BeginsFrom f (k.families f).flushed it)
 
   first : (members : List ℕ) → 0 < length members
       → MembersJoin a.journal a.memtables c.descriptor.family named.middle members c.descriptor.base

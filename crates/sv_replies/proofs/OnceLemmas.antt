@@ -67,11 +67,13 @@ one-distinct x (suc i) j y a b = absurd (let e = a in cc)
 
 pub purged_of-push : (all : List Answered) (x : Answered)
     → purged_of (all ++ x ∷ []) ≡ purged_of all ++ purged_by x.reply
-purged_of-push all x = flat_map-append (λ (a : Answered). purged_by a.reply) all (x ∷ []) ∙ ap (λ z. purged_of all ++ z) (append-nil (purged_by x.reply))
+purged_of-push all x =
+    flat_map-append (λ (a : Answered). purged_by a.reply) all (x ∷ []) ∙ ap (λ z. purged_of all ++ z) (append-nil (purged_by x.reply))
 
 pub ended_of-push : (all : List Answered) (x : Answered)
     → ended_of (all ++ x ∷ []) ≡ ended_of all ++ ended_by x.command x.reply
-ended_of-push all x = flat_map-append (λ (a : Answered). ended_by a.command a.reply) all (x ∷ []) ∙ ap (λ z. ended_of all ++ z) (append-nil (ended_by x.command x.reply))
+ended_of-push all x =
+    flat_map-append (λ (a : Answered). ended_by a.command a.reply) all (x ∷ []) ∙ ap (λ z. ended_of all ++ z) (append-nil (ended_by x.command x.reply))
 
 -- where one lane is
 pub purged-alone : (all : List Answered) → purged (all ∷ []) ≡ purged_of all
@@ -88,7 +90,8 @@ gone_keeps : (n : ℕ) (x y : RegisteredFile) → KeepsNumber x y → HasStatus 
 gone_keeps n x y kept h = record { number_is = kept.number ∙ h.number_is; status_is = kept.gone h.status_is }
 
 pub gone-later : (a b : Books) (numbers : List ℕ) → After a b → AreGone a numbers → AreGone b numbers
-gone-later a b numbers after h n has = has-later KeepsNumber (HasStatus n Gone) (HasStatus n Gone) (gone_keeps n) a.files.numbers b.files.numbers after.numbers (h n has)
+gone-later a b numbers after h n has =
+    has-later KeepsNumber (HasStatus n Gone) (HasStatus n Gone) (gone_keeps n) a.files.numbers b.files.numbers after.numbers (h n has)
 
 -- What a purge or scan showed was not Gone before, so none of it was shown before.
 pub purged-once : (a b : Books) (all : List Answered) (x : Answered) → After a b → AreGone a (purged_of all)

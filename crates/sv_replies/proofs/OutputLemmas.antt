@@ -36,7 +36,8 @@ module _ (a b : Books) (f : ℕ) (file : FileMeta) (settled : IsSettled f file.n
   )
 
   pub below-next : Sound a → file.number < a.files.next
-  below-next sound = omega (arith, sound.lawful.numbers.below settled.numbers.at settled.numbers.it settled.numbers.found, settled.numbers.had.number_is)
+  below-next sound =
+      omega (arith, sound.lawful.numbers.below settled.numbers.at settled.numbers.it settled.numbers.found, settled.numbers.had.number_is)
 
   -- the Version made last has the file
   pub is-output : (files : List FileMeta) (live : Bool) → In file a.metas → b.metas ≡ a.metas → In file files

@@ -49,7 +49,8 @@ module _ (lane : ℕ) (a b : Books) (k : Known) (own : OwnAre lane a k) (name : 
     (families : b.families ≡ slice_set a.families f (released it lane))
     (holds : b.files.holds ≡ a.files.holds) (journal : b.journal ≡ a.journal) where
   placed : IsPlaced a.families b.families f (released it lane)
-  placed = subst (λ (l : List Family). IsPlaced a.families l f (released it lane)) (sym families) (placed-set a.families f it (released it lane) at)
+  placed =
+      subst (λ (l : List Family). IsPlaced a.families l f (released it lane)) (sym families) (placed-set a.families f it (released it lane) at)
 
   -- it was the lane's only one of the name
   only : (g : ℕ) → IsAt (IsOwn lane name) a.families g → g ≡ f
@@ -57,7 +58,8 @@ module _ (lane : ℕ) (a b : Books) (k : Known) (own : OwnAre lane a k) (name : 
       some (sym ((own.handles name g).1 h) ∙ (own.handles name f).1 (it, at, record { name_is = is; handle = handle }))
 
   given_back : (other : List ℕ) → IsOwn lane other (released it lane) → ⊥
-  given_back other h = absurd (let e : false ≡ true = some (sym (set_here it.handles lane false (get_within it.handles lane true handle)) ∙ h.handle) in cc)
+  given_back other h =
+      absurd (let e : false ≡ true = some (sym (set_here it.handles lane false (get_within it.handles lane true handle)) ∙ h.handle) in cc)
 
   none_some : (g : ℕ) → None ≡ Some g → ⊥
   none_some g e = absurd (cc)

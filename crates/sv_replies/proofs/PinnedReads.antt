@@ -37,7 +37,8 @@ module _ (b : Books) (sound : Sound b) (n : ℕ) (x : SuperVersion) (at : entry 
       omega (arith, few, length-drop says.active.first (of_family says.active.family b.journal), bears.within, says.base, ap (λ g. length (of_family g b.journal)) says.active_family)
 
   -- where it has the active memtable of the family's current, it ends as that does
-  pub ends-as : (s : ℕ) (c : SuperVersion) → IsCurrent b.tops b.supers x.descriptor.family s c → x.descriptor.active ≡ c.descriptor.active
+  pub ends-as : (s : ℕ) (c : SuperVersion) → IsCurrent b.tops b.supers x.descriptor.family s c
+      → x.descriptor.active ≡ c.descriptor.active
       → end_of b.journal x ≡ length (of_family x.descriptor.family b.journal)
   ends-as s c is same =
       let it = (current-top b sound.lawful x.descriptor.family s is.top is.at is.is).2 in
@@ -54,9 +55,11 @@ module _ (b : Books) (sound : Sound b) (n : ℕ) (x : SuperVersion) (at : entry 
         current-ends b sound.lawful x.descriptor.family s c is,
       )
 
-  pub pin-gets : ActivesAreFrozen b → (k : Known) (p : Pinned) (pin : ℕ) → Knows b k → k.pins pin ≡ Some p → p.serial ≡ n
+  pub pin-gets : ActivesAreFrozen b → (k : Known) (p : Pinned) (pin : ℕ) → Knows b k → k.pins pin ≡ Some p
+      → p.serial ≡ n
       → (s : ℕ) (c : SuperVersion) → IsCurrent b.tops b.supers p.family s c
-      → (q : Setting) (key : List ℕ) (found : Option (List ℕ)) → (q.told ≡ true → look b.journal p.family (end_of b.journal x) key ≡ found)
+      → (q : Setting) (key : List ℕ) (found : Option (List ℕ))
+      → (q.told ≡ true → look b.journal p.family (end_of b.journal x) key ≡ found)
       → FindsUnread b p.family key found (end_of b.journal x) x → GetsPinned q b k key found (end_of b.journal x) n p
   pin-gets frozen k p pin knows has serial s c is q key found looked unread =
       let known = knows.pins pin p has in

@@ -46,4 +46,5 @@ each-push P all x each here k a at = elim (cases_lt k (length all)) [
 
 pub replies-push : (s : Setting) (books : Books) (all : List Answered) (a : Answered) → RepliesFit s books all
     → ReplyFits s books (known_after all) a.command a.reply → RepliesFit s books (all ++ a ∷ [])
-replies-push s books all a fits one = each-push (λ before x. ReplyFits s books (known_after before) x.command x.reply) all a fits one
+replies-push s books all a fits one =
+    each-push (λ before x. ReplyFits s books (known_after before) x.command x.reply) all a fits one

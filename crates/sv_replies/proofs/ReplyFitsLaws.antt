@@ -97,7 +97,8 @@ module _ (s : Setting) (a b : Books) (k : Known) (knows : Knows a k) (law : Lawf
       let ends : end_of b.journal y ≡ x.descriptor.base + length (borne_by x.descriptor.active b.journal) = ap (λ (d : Descriptor). d.base + length (borne_by d.active b.journal)) kept.descriptor in
       record {
         end = h.end ∙ ap (λ (z : List Write). x.descriptor.base + length z) (sym rows) ∙ sym ends;
-        frozen = subst (λ m. Has (λ z. In m z.members) b.lists) (sym (ap (λ (d : Descriptor). d.active) kept.descriptor))
+        frozen =
+            subst (λ m. Has (λ z. In m z.members) b.lists) (sym (ap (λ (d : Descriptor). d.active) kept.descriptor))
             (has-later KeepsList (λ z. In x.descriptor.active z.members) (λ z. In x.descriptor.active z.members)
             (λ p q keeps it. subst (λ (ms : List ℕ). In x.descriptor.active ms) (sym keeps.members) it) a.lists b.lists after.lists l);
       }
@@ -126,7 +127,8 @@ module _ (s : Setting) (a b : Books) (k : Known) (knows : Knows a k) (law : Lawf
 
   -- a cut is within the family's writes
   cut_within : (f cut n : ℕ) → IsIn (CutsAt a f cut) a.snapshots n → cut ≤ length (of_family f a.journal)
-  cut_within f cut n h = omega (arith, h.2.is, cut-ascend a.journal f h.0.at (length a.journal) h.2.within, cut-now a.journal f)
+  cut_within f cut n h =
+      omega (arith, h.2.is, cut-ascend a.journal f h.0.at (length a.journal) h.2.within, cut-now a.journal f)
 
   gets_at : (n : ℕ) (key : List ℕ) (found : Option (List ℕ)) (cut sv f : ℕ) → GetsAt s a k n key found cut sv f
       → GetsAt s b k n key found cut sv f
@@ -142,10 +144,12 @@ module _ (s : Setting) (a b : Books) (k : Known) (knows : Knows a k) (law : Lawf
   -- ---- files
 
   flushes : (number from to f : ℕ) → Flushes a k number from to f → Flushes b k number from to f
-  flushes number from to f h = record { range = h.range; later = h.later; newer = h.newer; cuts = h.cuts; output = output-later a b f _ after h.output }
+  flushes number from to f h =
+      record { range = h.range; later = h.later; newer = h.newer; cuts = h.cuts; output = output-later a b f _ after h.output }
 
   compacts : (number from to f : ℕ) → Compacts a k number from to f → Compacts b k number from to f
-  compacts number from to f h = record { whole = h.whole; some = h.some; far = h.far; newer = h.newer; cuts = h.cuts; output = output-later a b f _ after h.output }
+  compacts number from to f h =
+      record { whole = h.whole; some = h.some; far = h.far; newer = h.newer; cuts = h.cuts; output = output-later a b f _ after h.output }
 
   gone_keeps : (n : ℕ) (x y : RegisteredFile) → KeepsNumber x y → HasStatus n Gone x → HasStatus n Gone y
   gone_keeps n x y kept h = record { number_is = kept.number ∙ h.number_is; status_is = kept.gone h.status_is }
@@ -194,16 +198,23 @@ module _ (s : Setting) (a b : Books) (k : Known) (knows : Knows a k) (law : Lawf
   -- ---- each answer
 
   pub shows-later : (c : Command) (r : Reply) → Shows s a k c r → Shows s b k c r
-  shows-later (command.Put name key value) (reply.Put n) h = some_and _ _ (writes key (op.Put value) n) (k.handles name) h
+  shows-later (command.Put name key value) (reply.Put n) h =
+      some_and _ _ (writes key (op.Put value) n) (k.handles name) h
   shows-later (command.Delete name key) (reply.Delete n) h = some_and _ _ (writes key op.Delete n) (k.handles name) h
-  shows-later (command.Get name key) (reply.Found value cut sv) h = some_and _ _ (gets key (Some value) cut sv) (k.handles name) h
+  shows-later (command.Get name key) (reply.Found value cut sv) h =
+      some_and _ _ (gets key (Some value) cut sv) (k.handles name) h
   shows-later (command.Get name key) (reply.Absent cut sv) h = some_and _ _ (gets key None cut sv) (k.handles name) h
-  shows-later (command.Getp pin key) (reply.Found value cut sv) h = some_and _ _ (gets_pinned key (Some value) cut sv) (k.pins pin) h
+  shows-later (command.Getp pin key) (reply.Found value cut sv) h =
+      some_and _ _ (gets_pinned key (Some value) cut sv) (k.pins pin) h
   shows-later (command.Getp pin key) (reply.Absent cut sv) h = some_and _ _ (gets_pinned key None cut sv) (k.pins pin) h
-  shows-later (command.Gets n name key) (reply.Found value cut sv) h = some_and _ _ (gets_at n key (Some value) cut sv) (k.handles name) h
-  shows-later (command.Gets n name key) (reply.Absent cut sv) h = some_and _ _ (gets_at n key None cut sv) (k.handles name) h
-  shows-later (command.Flush name) (reply.Flush number from to) h = some_and _ _ (flushes number from to) (k.handles name) h
-  shows-later (command.Compact name) (reply.Compact number from to) h = some_and _ _ (compacts number from to) (k.handles name) h
+  shows-later (command.Gets n name key) (reply.Found value cut sv) h =
+      some_and _ _ (gets_at n key (Some value) cut sv) (k.handles name) h
+  shows-later (command.Gets n name key) (reply.Absent cut sv) h =
+      some_and _ _ (gets_at n key None cut sv) (k.handles name) h
+  shows-later (command.Flush name) (reply.Flush number from to) h =
+      some_and _ _ (flushes number from to) (k.handles name) h
+  shows-later (command.Compact name) (reply.Compact number from to) h =
+      some_and _ _ (compacts number from to) (k.handles name) h
   shows-later (command.Create name) (reply.Create id) h = creates name id h
   shows-later (command.Open name) (reply.Open id) h = named-later a b id name after h
   shows-later (command.Release name) reply.Release h = tt

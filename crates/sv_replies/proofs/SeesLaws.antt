@@ -15,7 +15,8 @@ use Rattle.sv_replies.proofs.RepliesFitLaws.{each-push}
 
 pub sees-push : (all : List Answered) (x : Answered) → GetsSeeAll all
     → SeesAll (known_after all) (accepted all) x.command x.reply → GetsSeeAll (all ++ x ∷ [])
-sees-push all x each here = each-push (λ before a. SeesAll (known_after before) (accepted before) a.command a.reply) all x each here
+sees-push all x each here =
+    each-push (λ before a. SeesAll (known_after before) (accepted before) a.command a.reply) all x each here
 
 count-changes : (f : ℕ) (journal : List Write) → count_in f (map change_of journal) ≡ length (of_family f journal)
 count-changes f [] = refl

@@ -64,7 +64,8 @@ apart true h = absurd (h refl)
 apart false h = refl
 
 live_over : (x y : Snapshot) → Some x ≡ Some y → x.live ≡ true → y.live ≡ false → ⊥
-live_over x y e live over = absurd (let d : true ≡ false = sym live ∙ ap (λ (z : Snapshot). z.live) (some e) ∙ over in cc)
+live_over x y e live over =
+    absurd (let d : true ≡ false = sym live ∙ ap (λ (z : Snapshot). z.live) (some e) ∙ over in cc)
 
 -- a lane may use what is Live
 pub may-use : (s : Setting) (b : Books) (k : Known) (n : ℕ) (x : Snapshot) → Knows b k → (s.lanes ≡ 1 → AllAreOwn b k)
@@ -130,8 +131,10 @@ module _ (a b : Books) (n : ℕ) (x : Snapshot) (h : IsUnsnapped a b n x) where
 pub gets-fits : (s : Setting) (b : Books) (k : Known) (n : ℕ) (name key : List ℕ) (f : ℕ) (found : Option (List ℕ)) (cut sv : ℕ)
     → k.handles name ≡ Some f → due k (command.Gets n name key) ≡ None → GetsAt s b k n key found cut sv f
     → ReplyFits s b k (command.Gets n name key) (read_reply found cut sv)
-gets-fits s b k n name key f (Some value) cut sv has none gets = (none, through (k.handles name) f (GetsAt s b k n key (Some value) cut sv) has gets)
-gets-fits s b k n name key f None cut sv has none gets = (none, through (k.handles name) f (GetsAt s b k n key None cut sv) has gets)
+gets-fits s b k n name key f (Some value) cut sv has none gets =
+    (none, through (k.handles name) f (GetsAt s b k n key (Some value) cut sv) has gets)
+gets-fits s b k n name key f None cut sv has none gets =
+    (none, through (k.handles name) f (GetsAt s b k n key None cut sv) has gets)
 
 -- the serial that a read shows
 abbrev pub ShowsSerial : Books → ℕ → Reply → Type 0
@@ -141,14 +144,17 @@ ShowsSerial b f r = Unit {0}
 
 knows-read_at : (b : Books) (k : Known) (n f : ℕ) (r : Reply) → Knows b k → IsMade b n → ShowsSerial b f r
     → Knows b (read_at n (Some f) r k)
-knows-read_at b k n f (reply.Found value cut sv) h made of = knows-snapshot b (learns (met sv) (Some f) k) n (knows-serial b k h f sv of) made
-knows-read_at b k n f (reply.Absent cut sv) h made of = knows-snapshot b (learns (met sv) (Some f) k) n (knows-serial b k h f sv of) made
+knows-read_at b k n f (reply.Found value cut sv) h made of =
+    knows-snapshot b (learns (met sv) (Some f) k) n (knows-serial b k h f sv of) made
+knows-read_at b k n f (reply.Absent cut sv) h made of =
+    knows-snapshot b (learns (met sv) (Some f) k) n (knows-serial b k h f sv of) made
 knows-read_at b k n f r h made of = h
 
 pub gets-knows : (b : Books) (k : Known) (n : ℕ) (name key : List ℕ) (f : ℕ) (r : Reply) → Knows b k
     → k.handles name ≡ Some f → IsMade b n
     → ShowsSerial b f r → Knows b (learn k (command.Gets n name key) r)
-gets-knows b k n name key f r knows has made of = of_handle (λ z. Knows b (read_at n z r k)) (k.handles name) f has (knows-read_at b k n f r knows made of)
+gets-knows b k n name key f r knows has made of =
+    of_handle (λ z. Knows b (read_at n z r k)) (k.handles name) f has (knows-read_at b k n f r knows made of)
 
 -- ---- no such snapshot
 

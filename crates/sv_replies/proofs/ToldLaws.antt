@@ -45,7 +45,8 @@ told-later s a b all law still after told = record {
 
 -- all that is known
 pub told-knows : (s : Setting) (b : Books) (all : List Answered) → Told s b all → Knows b (known_after all)
-told-knows s b all told = subst (λ (l : List Answered). Knows b (known_after l)) (take_all (length all) all (omega arith)) (told.knows (length all))
+told-knows s b all told =
+    subst (λ (l : List Answered). Knows b (known_after l)) (take_all (length all) all (omega arith)) (told.knows (length all))
 
 -- One reply more, after a change of the books.
 pub told-push : (s : Setting) (a b : Books) (all : List Answered) (x : Answered) → Lawful a → Lawful b → After a b

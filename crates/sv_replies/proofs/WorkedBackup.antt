@@ -120,7 +120,8 @@ each zero x e = of_default
 each (suc f) x e = absurd (cc)
 
 fits-live : ReplyFits alone books (known_after (take 6 rows)) command.Live (reply.Live (1 ∷ 2 ∷ []))
-fits-live = (refl, record { rising = rising; captured = λ n has. (0, omega arith, captured has.at n has.is); named = λ n has. named has.at n has.is; covers = λ f x at stands. each f x at })
+fits-live =
+    (refl, record { rising = rising; captured = λ n has. (0, omega arith, captured has.at n has.is); named = λ n has. named has.at n has.is; covers = λ f x at stands. each f x at })
 
 -- a list that leaves out the files
 no_files : (to : ℕ) (files : List FileMeta) → FilesJoin 0 files to → 2 ≤ to → ((n : ℕ) → In n (numbers_of files) → ⊥)

@@ -59,7 +59,8 @@ abbrev pub version : List FileMeta → Version
 version files = record { files = files; live = false }
 
 abbrev pub file : ℕ → ℕ → ℕ → Bool → List ℕ → FileMeta
-file number from to last cuts = record { number = number; from = from; to = to; bottom = record { last = last; cuts = cuts } }
+file number from to last cuts =
+    record { number = number; from = from; to = to; bottom = record { last = last; cuts = cuts } }
 
 abbrev pub number_for : ℕ → ℕ → FileStatus → RegisteredFile
 number_for family number status = record { number = number; status = status; family = Some family }

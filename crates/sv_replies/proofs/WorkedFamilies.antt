@@ -132,4 +132,5 @@ made_before h = absurd (omega (arith, h.1.newer))
 
 standing : ReplyFits first_of_two (record books { families = default_family ∷ family cold false ∷ [] }) (known_after (take 8 rows)) (command.Open cold) (reply.Refused refusal.NoFamily)
     → ⊥
-standing h = let w = h 1 refl in absurd (let e : false ≡ true = ap (λ (f : Family). f.dropped) (same_family (family cold false) w.0 w.1) ∙ w.2 in cc)
+standing h =
+    let w = h 1 refl in absurd (let e : false ≡ true = ap (λ (f : Family). f.dropped) (same_family (family cold false) w.0 w.1) ∙ w.2 in cc)

@@ -88,7 +88,8 @@ fits-get_after = (
 )
 
 fits-nothing : ReplyFits alone books (known_after (take 5 rows)) (command.Flush home) (reply.Refused refusal.NothingToFlush)
-fits-nothing = inr (file 1 0 1 false [], record { captured = (1, number_for 0 1 Live, refl, record { number_is = refl; family_is = refl }); covers = record { at = 0; is = refl }; reaches = omega arith })
+fits-nothing =
+    inr (file 1 0 1 false [], record { captured = (1, number_for 0 1 Live, refl, record { number_is = refl; family_is = refl }); covers = record { at = 0; is = refl }; reaches = omega arith })
 
 -- ---- what does not fit
 

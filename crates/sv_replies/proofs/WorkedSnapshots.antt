@@ -69,7 +69,8 @@ covers f = ⊎_elim
     (eqb_tells f 0)
 
 fits-snap : ReplyFits alone books (known_after (take 1 rows)) command.Snap (reply.Snap 1 1)
-fits-snap = (refl, record { new = refl; stands = (ended, refl, refl); within = omega arith; covers = covers; own = refl })
+fits-snap =
+    (refl, record { new = refl; stands = (ended, refl, refl); within = omega arith; covers = covers; own = refl })
 
 -- a place before what the lane had written
 early : ReplyFits alone books (known_after (take 1 rows)) command.Snap (reply.Snap 1 0) → ⊥
@@ -107,7 +108,8 @@ same_snapshot x y e = cc
 
 -- a read at the journal's end
 at_end : ReplyFits alone books (known_after (take 7 rows)) (command.Gets 1 home a) (reply.Absent 3 4) → ⊥
-at_end h = absurd (let at = h.1.cut_is in let e : 3 ≡ cut_of books.journal 1 0 = at.2.is ∙ ap (λ (x : Snapshot). cut_of books.journal x.at 0) (sym (same_snapshot ended at.0 at.1)) in omega (arith, e))
+at_end h =
+    absurd (let at = h.1.cut_is in let e : 3 ≡ cut_of books.journal 1 0 = at.2.is ∙ ap (λ (x : Snapshot). cut_of books.journal x.at 0) (sym (same_snapshot ended at.0 at.1)) in omega (arith, e))
 
 fits-nothing : ReplyFits alone books (known_after (take 9 rows)) (command.Compact home) (reply.Refused refusal.NothingToCompact)
 fits-nothing = inr (

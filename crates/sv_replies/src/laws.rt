@@ -6,10 +6,13 @@ ghost use Rattle.sv_model.specs.Journal.{by_lane, change_of};
 ghost use Rattle.sv_model.specs.Lawful.{Lawful};
 ghost use Rattle.sv_model.specs.Lists.{Distinct, Every};
 ghost use Rattle.sv_model.specs.Openings.{IsOpening, opening_books};
+ghost use Rattle.sv_model.specs.Steady.{Sound};
+ghost use Rattle.sv_laws.specs.Changes.{Changes};
 ghost use Rattle.sv_script.specs.Answered.{Answered};
 ghost use Rattle.sv_script.specs.declared.commands.Command.{Command};
 ghost use Rattle.sv_script.specs.declared.replies.Reply.{Reply};
 ghost use Rattle.sv_replies.specs.Answers.{Answers};
+ghost use Rattle.sv_replies.specs.FrozenActives.{ActivesAreFrozen};
 ghost use Rattle.sv_replies.specs.Known.{Known, known_after, learn};
 ghost use Rattle.sv_replies.specs.Knows.{Knows};
 ghost use Rattle.sv_replies.specs.LanesFit.{IsOfLanes, LanesFit, accepted, ended_of, purged_of};
@@ -44,4 +47,11 @@ pub fn replies_of_one_lane()
     ensures { (told : Bool) (b : Books) (all : List Answered) → RepliesFit (record { lane = 0; lanes = 1; told = told }) b all
         → map change_of (by_lane 0 b.journal) ≡ accepted all → Every (IsOfLanes 1) b.journal
         → Distinct (purged_of all) → Distinct (ended_of all) → LanesFit told b (all ∷ []) }
+{}
+
+/// Each SuperVersion's active memtable is that of its family's current or a member of a list: at first, and after each
+/// change.
+pub fn actives_that_freeze()
+    ensures first { (next : ℕ) → ActivesAreFrozen (opening_books next) }
+    ensures kept { (a b : Books) → Sound a → ActivesAreFrozen a → Changes a b → ActivesAreFrozen b }
 {}
