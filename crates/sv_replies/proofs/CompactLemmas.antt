@@ -1,19 +1,15 @@
 -- A compaction: what its plan keeps until its end, why the reply then fits, and what the lane knows after it.
-use Rattle.std.proofs.Common.{◌≡◌, ◌<◌, ◌≤◌, ◌+◌, ⊎_elim, ℕ, true, List, [], ◌∷◌, ◌++◌, length, Some, None, refl, sym, ◌∙◌, ap, subst, arith}
+use Rattle.std.proofs.Common.{◌≡◌, ◌<◌, ◌≤◌, ◌+◌, ⊎_elim, ℕ, true, List, [], ◌∷◌, ◌++◌, length, Some, None, refl, ap, subst, arith}
 use Rattle.sv_model.specs.declared.records.FileMeta.{FileMeta}
-use Rattle.sv_model.specs.declared.records.Top.{Top}
-use Rattle.sv_model.specs.declared.records.Version.{Version}
 use Rattle.sv_model.specs.After.{After}
 use Rattle.sv_model.specs.Books.{Books, files_of}
 use Rattle.sv_model.specs.Described.{Describes}
 use Rattle.sv_model.specs.Ranges.{reach_of}
 use Rattle.sv_model.specs.Reads.{IsOutput}
-use Rattle.sv_model.specs.Registers.{entry}
 use Rattle.sv_model.specs.Steady.{IsMerge, Sound}
 use Rattle.sv_laws.specs.Captures.{IsMergePlanned}
 use Rattle.sv_laws.specs.NewCurrents.{IsCompacted}
 use Rattle.sv_laws.specs.Installs.{next_top}
-use Rattle.sv_laws.proofs.Items.{some}
 use Rattle.sv_laws.proofs.OpenFamilies.{last-files, says}
 use Rattle.sv_laws.proofs.Outputs.{is-merge, is-some}
 use Rattle.sv_script.specs.declared.commands.Command.TheVariants as command
@@ -25,12 +21,13 @@ use Rattle.sv_replies.specs.Knows.{Knows}
 use Rattle.sv_replies.specs.ReplyFits.{ReplyFits}
 use Rattle.sv_replies.specs.Settings.{Setting}
 use Rattle.sv_replies.proofs.KnowsLaws.{knows-later}
-use Rattle.sv_replies.proofs.KnowsMore.{knows-file, knows-merge, of_handle}
+use Rattle.sv_replies.proofs.LearnLaws.{knows-file, knows-merge, of_handle}
 use Rattle.sv_replies.proofs.OutputLemmas.{below-next, is-output, reaches}
-use Rattle.sv_replies.proofs.Refusals.{through}
+use Rattle.sv_replies.proofs.MetLaws.{through}
 
 -- the number is new to the lane
-pub merge-planned : (a b : Books) (f : ℕ) (file : FileMeta) (k : Known) → Knows a k → IsMergePlanned a b f file → k.file < file.number
+pub merge-planned : (a b : Books) (f : ℕ) (file : FileMeta) (k : Known) → Knows a k → IsMergePlanned a b f file
+    → k.file < file.number
 merge-planned a b f file k knows h = omega (arith, h.captured.number_is, knows.file)
 
 module _ (a b : Books) (f : ℕ) (file : FileMeta) (sound : Sound a) (h : IsCompacted a b f file) where
@@ -38,10 +35,12 @@ module _ (a b : Books) (f : ℕ) (file : FileMeta) (sound : Sound a) (h : IsComp
   versions-are = ap (λ (x : Books). x.versions) h.is
 
   output : IsOutput b f file
-  output = is-output a b f file h.settled (file ∷ []) true h.covered (ap (λ (x : Books). x.metas) h.is) (record { at = 0; is = refl }) versions-are
+  output =
+      is-output a b f file h.settled (file ∷ []) true h.covered (ap (λ (x : Books). x.metas) h.is) (record { at = 0; is = refl }) versions-are
 
   file_is : file ≡ record { number = file.number; from = file.from; to = file.to; bottom = record { last = true; cuts = file.bottom.cuts } }
-  file_is = λ i. record { number = file.number; from = file.from; to = file.to; bottom = record { last = h.kind i; cuts = file.bottom.cuts } }
+  file_is =
+      λ i. record { number = file.number; from = file.from; to = file.to; bottom = record { last = h.kind i; cuts = file.bottom.cuts } }
 
   named : Describes a.journal a.memtables a.lists a.versions a.files.numbers a.metas h.c.descriptor
   named = says a sound f h.s h.c h.is_open
@@ -68,10 +67,12 @@ module _ (a b : Books) (f : ℕ) (file : FileMeta) (sound : Sound a) (h : IsComp
     output = subst (λ z. IsOutput b f z) file_is output;
   }
 
-  pub compact-fits : (s : Setting) (k : Known) (name : List ℕ) → Knows a k → k.file < file.number → k.handles name ≡ Some f
+  pub compact-fits : (s : Setting) (k : Known) (name : List ℕ) → Knows a k → k.file < file.number
+      → k.handles name ≡ Some f
       → due k (command.Compact name) ≡ None
       → ReplyFits s b k (command.Compact name) (reply.Compact file.number file.from file.to)
-  compact-fits s k name knows newer has none = (none, through (k.handles name) f (Compacts b k file.number file.from file.to) has (compacts k knows newer))
+  compact-fits s k name knows newer has none =
+      (none, through (k.handles name) f (Compacts b k file.number file.from file.to) has (compacts k knows newer))
 
   pub compact-knows : (k : Known) (name : List ℕ) → After a b → Knows a k → k.handles name ≡ Some f
       → Knows b (learn k (command.Compact name) (reply.Compact file.number file.from file.to))

@@ -1,12 +1,11 @@
 -- Families are made, opened, released and dropped, options are set and SuperVersions pinned: why the replies fit, and
 -- what the lane then knows.
-use Rattle.std.proofs.Common.{◌≡◌, ◌<◌, ◌≤◌, ◌+◌, ◌==◌, ⊎_elim, ℕ, max, Bool, true, false, List, [], ◌∷◌, ◌++◌, length, Option, Some, None, refl, sym, ◌∙◌, ap, subst, arith}
+use Rattle.std.proofs.Common.{◌≡◌, ◌<◌, ◌≤◌, ◌+◌, ◌==◌, ⊎_elim, ℕ, max, Bool, true, List, length, Option, Some, None, refl, sym, ◌∙◌, ap, subst, arith}
 use Rattle.std.specs.Prelude.{slice_get, slice_set, if◌then◌else◌, bytes_eq}
 use Rattle.std.proofs.lemmas.List.{length_push}
 use Rattle.std.proofs.lemmas.Bool.Decides.{eqb_tells}
 use Rattle.std.proofs.lemmas.Slice.Eq.{bytes_eq-Decides}
 use Rattle.sv_model.specs.declared.records.Family.{Family}
-use Rattle.sv_model.specs.declared.records.SuperVersion.{SuperVersion}
 use Rattle.sv_model.specs.declared.settings.OptionName.{OptionName}
 use Rattle.sv_model.specs.declared.settings.Options.{Options}
 use Rattle.sv_model.specs.After.{After}
@@ -20,21 +19,19 @@ use Rattle.sv_laws.specs.NewCurrents.{IsFamilyMade, IsOptionSet}
 use Rattle.sv_laws.proofs.Growing.{placed-push, placed-set}
 use Rattle.sv_laws.proofs.OpenFamilies.{of_f}
 use Rattle.sv_script.specs.declared.commands.Command.TheVariants as command
-use Rattle.sv_script.specs.declared.replies.Reply.{Reply}
 use Rattle.sv_script.specs.declared.replies.Reply.TheVariants as reply
-use Rattle.sv_replies.specs.CreateLaw.{Creates}
 use Rattle.sv_replies.specs.DropLaw.{Drops}
 use Rattle.sv_replies.specs.Due.{due, free_pin}
-use Rattle.sv_replies.specs.Known.{Known, Pinned, as_dropped, has_handle, learn, learns, met, pinned, touches, with_at, with_handle}
+use Rattle.sv_replies.specs.Known.{Known, Pinned, as_dropped, has_handle, learn, learns, met, pinned, with_at, with_handle}
 use Rattle.sv_replies.specs.Knows.{Knows}
 use Rattle.sv_replies.specs.PinLaw.{Pins}
 use Rattle.sv_replies.specs.ReplyFits.{ReplyFits}
-use Rattle.sv_replies.specs.SetLaw.{HasOption, Sets, value_of}
+use Rattle.sv_replies.specs.SetLaw.{Sets, value_of}
 use Rattle.sv_replies.specs.Settings.{Setting}
-use Rattle.sv_replies.specs.Standing.{IsIn, IsNamed, IsOf, WasDropped}
+use Rattle.sv_replies.specs.Moments.{IsIn, IsNamed, IsOf, WasDropped}
 use Rattle.sv_replies.proofs.KnowsLaws.{at_holds, handle_holds, knows-dropped, knows-later, knows-learns, unequal}
-use Rattle.sv_replies.proofs.KnowsMore.{knows-serial, knows-touch, max_below, of_handle}
-use Rattle.sv_replies.proofs.Refusals.{through}
+use Rattle.sv_replies.proofs.LearnLaws.{knows-serial, knows-touch, max_below, of_handle}
+use Rattle.sv_replies.proofs.MetLaws.{through}
 
 -- ---- handles
 
@@ -45,7 +42,8 @@ none_item : (f : ℕ) → None ≡ Some f → ⊥
 none_item f e = absurd (cc)
 
 -- a handle more, of a family that has the name
-pub knows-handle : (b : Books) (k : Known) (name : List ℕ) (id : ℕ) → Knows b k → IsNamed b id name → Knows b (has_handle name id k)
+pub knows-handle : (b : Books) (k : Known) (name : List ℕ) (id : ℕ) → Knows b k → IsNamed b id name
+    → Knows b (has_handle name id k)
 knows-handle b k name id h is = record {
   families = h.families;
   handles = handle_holds (λ other o. (f : ℕ) → o ≡ Some f → IsNamed b f other) k.handles name (Some id) h.handles
@@ -69,7 +67,8 @@ knows-handle b k name id h is = record {
         (eqb_tells f id)
 
 -- a handle less
-pub knows-released : (b : Books) (k : Known) (name : List ℕ) → Knows b k → Knows b (record k { handles = with_handle k.handles name None })
+pub knows-released : (b : Books) (k : Known) (name : List ℕ) → Knows b k
+    → Knows b (record k { handles = with_handle k.handles name None })
 knows-released b k name h = record {
   families = h.families;
   handles = handle_holds (λ other o. (f : ℕ) → o ≡ Some f → IsNamed b f other) k.handles name None h.handles (λ f e. absurd (none_item f e));
@@ -82,7 +81,8 @@ knows-released b k name h = record {
 }
 
 -- an id that was made
-pub knows-created : (b : Books) (k : Known) (id : ℕ) → Knows b k → id < length b.families → Knows b (record k { created = max k.created id })
+pub knows-created : (b : Books) (k : Known) (id : ℕ) → Knows b k → id < length b.families
+    → Knows b (record k { created = max k.created id })
 knows-created b k id h made = record {
   families = h.families;
   handles = h.handles;
@@ -95,7 +95,8 @@ knows-created b k id h made = record {
 }
 
 pub knows-pins : (b : Books) (k : Known) (pin : ℕ) (o : Option Pinned) → Knows b k
-    → ((p : Pinned) → o ≡ Some p → IsIn (IsOf p.family) b.supers p.serial) → Knows b (record k { pins = with_at k.pins pin o })
+    → ((p : Pinned) → o ≡ Some p → IsIn (IsOf p.family) b.supers p.serial)
+    → Knows b (record k { pins = with_at k.pins pin o })
 knows-pins b k pin o h of = record {
   families = h.families;
   handles = h.handles;
@@ -111,9 +112,11 @@ knows-pins b k pin o h of = record {
 
 module _ (a b : Books) (r : Family) (h : IsFamilyMade a b r) where
   made-named : (name : List ℕ) → r.name ≡ name → IsNamed b (length a.families) name
-  made-named name is = (r, ap (λ (x : Books). slice_get x.families (length a.families)) h.is ∙ (placed-push a.families r).here, is)
+  made-named name is =
+      (r, ap (λ (x : Books). slice_get x.families (length a.families)) h.is ∙ (placed-push a.families r).here, is)
 
-  pub create-fits : (s : Setting) (k : Known) (name : List ℕ) (id : ℕ) → Knows a k → r.name ≡ name → k.handles name ≡ None
+  pub create-fits : (s : Setting) (k : Known) (name : List ℕ) (id : ℕ) → Knows a k → r.name ≡ name
+      → k.handles name ≡ None
       → id ≡ length a.families → ReplyFits s b k (command.Create name) (reply.Create id)
   create-fits s k name id knows is free number = (
     refl,
@@ -124,7 +127,8 @@ module _ (a b : Books) (r : Family) (h : IsFamilyMade a b r) where
     },
   )
 
-  pub create-knows : (k : Known) (name : List ℕ) (id : ℕ) → After a b → Knows a k → r.name ≡ name → id ≡ length a.families
+  pub create-knows : (k : Known) (name : List ℕ) (id : ℕ) → After a b → Knows a k → r.name ≡ name
+      → id ≡ length a.families
       → Knows b (learn k (command.Create name) (reply.Create id))
   create-knows k name id after knows is number =
       knows-created b (has_handle name id k) id
@@ -145,7 +149,8 @@ module _ (a b : Books) (f lane : ℕ) (h : IsOpened a b f lane) where
       → ReplyFits s b k (command.Open name) (reply.Open f)
   open-fits s k name is none = (none, opened-named name is)
 
-  pub open-knows : (k : Known) (name : List ℕ) → After a b → Knows a k → h.it.name ≡ name → Knows b (learn k (command.Open name) (reply.Open f))
+  pub open-knows : (k : Known) (name : List ℕ) → After a b → Knows a k → h.it.name ≡ name
+      → Knows b (learn k (command.Open name) (reply.Open f))
   open-knows k name after knows is = knows-handle b k name f (knows-later a b k after knows) (opened-named name is)
 
 -- and given back
@@ -153,7 +158,8 @@ pub release-fits : (s : Setting) (b : Books) (k : Known) (name : List ℕ) → d
     → ReplyFits s b k (command.Release name) reply.Release
 release-fits s b k name none = (none, tt)
 
-pub release-knows : (a b : Books) (k : Known) (name : List ℕ) → After a b → Knows a k → Knows b (learn k (command.Release name) reply.Release)
+pub release-knows : (a b : Books) (k : Known) (name : List ℕ) → After a b → Knows a k
+    → Knows b (learn k (command.Release name) reply.Release)
 release-knows a b k name after knows = knows-released b k name (knows-later a b k after knows)
 
 -- ---- a family is dropped
@@ -170,7 +176,8 @@ module _ (a b : Books) (f lane : ℕ) (h : IsDropped a b f lane) where
       → ReplyFits s b k (command.Drop name) reply.Drop
   drop-fits s k name has none = (none, through (k.handles name) f (Drops b) has is-dropped)
 
-  pub drop-knows : (k : Known) (name : List ℕ) → After a b → Knows a k → k.handles name ≡ Some f → Knows b (learn k (command.Drop name) reply.Drop)
+  pub drop-knows : (k : Known) (name : List ℕ) → After a b → Knows a k → k.handles name ≡ Some f
+      → Knows b (learn k (command.Drop name) reply.Drop)
   drop-knows k name after knows has =
       let later = knows-later a b k after knows in
       of_handle (λ z. Knows b (learns as_dropped z k)) (k.handles name) f has
@@ -179,11 +186,13 @@ module _ (a b : Books) (f lane : ℕ) (h : IsDropped a b f lane) where
 -- ---- an option is set
 
 module _ (a b : Books) (f : ℕ) (o : Options) (sound : Sound a) (h : IsOptionSet a b f o) where
-  made_at : (sv : ℕ) → sv ≡ length a.supers + 1 → entry b.supers sv ≡ Some (live_super (record h.c.descriptor { options = o }) h.place)
+  made_at : (sv : ℕ) → sv ≡ length a.supers + 1
+      → entry b.supers sv ≡ Some (live_super (record h.c.descriptor { options = o }) h.place)
   made_at sv number =
       ap (λ (x : Books). entry x.supers sv) h.is ∙ entry-new a.supers (live_super (record h.c.descriptor { options = o }) h.place) sv number
 
-  pub set-fits : (s : Setting) (k : Known) (name : List ℕ) (option : OptionName) (value sv : ℕ) → Knows a k → k.handles name ≡ Some f
+  pub set-fits : (s : Setting) (k : Known) (name : List ℕ) (option : OptionName) (value sv : ℕ) → Knows a k
+      → k.handles name ≡ Some f
       → due k (command.Set name option value) ≡ None → value_of option o ≡ value → sv ≡ length a.supers + 1
       → ReplyFits s b k (command.Set name option value) (reply.Set sv)
   set-fits s k name option value sv knows has none is number = (
@@ -201,7 +210,8 @@ module _ (a b : Books) (f : ℕ) (o : Options) (sound : Sound a) (h : IsOptionSe
     }),
   )
 
-  pub set-knows : (k : Known) (name : List ℕ) (option : OptionName) (value sv : ℕ) → After a b → Knows a k → k.handles name ≡ Some f
+  pub set-knows : (k : Known) (name : List ℕ) (option : OptionName) (value sv : ℕ) → After a b → Knows a k
+      → k.handles name ≡ Some f
       → sv ≡ length a.supers + 1 → Knows b (learn k (command.Set name option value) (reply.Set sv))
   set-knows k name option value sv after knows has number =
       of_handle (λ z. Knows b (learns (met sv) z k)) (k.handles name) f has
@@ -210,9 +220,12 @@ module _ (a b : Books) (f : ℕ) (o : Options) (sound : Sound a) (h : IsOptionSe
 
 -- ---- a SuperVersion is pinned
 
-pub pin-fits : (s : Setting) (b : Books) (k : Known) (name : List ℕ) (f pin sv : ℕ) → k.handles name ≡ Some f → due k (command.Pin name) ≡ None
-    → free_pin k ≡ Some pin → (k.families f).serial ≤ sv → IsIn (IsOf f) b.supers sv → ReplyFits s b k (command.Pin name) (reply.Pin pin sv)
-pin-fits s b k name f pin sv has none least newer of = (none, through (k.handles name) f (Pins b k pin sv) has (record { least = least; newer = newer; of = of }))
+pub pin-fits : (s : Setting) (b : Books) (k : Known) (name : List ℕ) (f pin sv : ℕ) → k.handles name ≡ Some f
+    → due k (command.Pin name) ≡ None
+    → free_pin k ≡ Some pin → (k.families f).serial ≤ sv → IsIn (IsOf f) b.supers sv
+    → ReplyFits s b k (command.Pin name) (reply.Pin pin sv)
+pin-fits s b k name f pin sv has none least newer of =
+    (none, through (k.handles name) f (Pins b k pin sv) has (record { least = least; newer = newer; of = of }))
 
 pin_item : (p q : Pinned) → Some p ≡ Some q → p ≡ q
 pin_item p q e = cc
@@ -220,19 +233,22 @@ pin_item p q e = cc
 none_pin : (q : Pinned) → None ≡ Some q → ⊥
 none_pin q e = absurd (cc)
 
-knows-pinned : (b : Books) (k : Known) (f pin sv : ℕ) → Knows b k → IsIn (IsOf f) b.supers sv → Knows b (pinned (Some f) pin sv k)
+knows-pinned : (b : Books) (k : Known) (f pin sv : ℕ) → Knows b k → IsIn (IsOf f) b.supers sv
+    → Knows b (pinned (Some f) pin sv k)
 knows-pinned b k f pin sv h of =
     knows-pins b k pin (Some (record { family = f; serial = sv })) h
     (λ p e. subst (λ (q : Pinned). IsIn (IsOf q.family) b.supers q.serial) (pin_item (record { family = f; serial = sv }) p e) of)
 
-pub pin-knows : (b : Books) (k : Known) (name : List ℕ) (f pin sv : ℕ) → Knows b k → k.handles name ≡ Some f → IsIn (IsOf f) b.supers sv
+pub pin-knows : (b : Books) (k : Known) (name : List ℕ) (f pin sv : ℕ) → Knows b k → k.handles name ≡ Some f
+    → IsIn (IsOf f) b.supers sv
     → Knows b (learn k (command.Pin name) (reply.Pin pin sv))
 pin-knows b k name f pin sv knows has of =
     knows-touch b (pinned (k.handles name) pin sv (learns (met sv) (k.handles name) k)) (k.handles name)
     (of_handle (λ z. Knows b (pinned z pin sv (learns (met sv) z k))) (k.handles name) f has
     (knows-pinned b (learns (met sv) (Some f) k) f pin sv (knows-serial b k knows f sv of) of))
 
-pub unpin-fits : (s : Setting) (b : Books) (k : Known) (pin : ℕ) → due k (command.Unpin pin) ≡ None → ReplyFits s b k (command.Unpin pin) reply.Unpin
+pub unpin-fits : (s : Setting) (b : Books) (k : Known) (pin : ℕ) → due k (command.Unpin pin) ≡ None
+    → ReplyFits s b k (command.Unpin pin) reply.Unpin
 unpin-fits s b k pin none = (none, tt)
 
 pub unpin-knows : (b : Books) (k : Known) (pin : ℕ) → Knows b k → Knows b (learn k (command.Unpin pin) reply.Unpin)

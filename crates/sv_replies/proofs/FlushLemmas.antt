@@ -1,10 +1,9 @@
 -- A flush: what its plan keeps until its end, why the reply then fits, and what the lane knows after it.
-use Rattle.std.proofs.Common.{◌≡◌, ◌<◌, ◌≤◌, ◌+◌, ℕ, Bool, true, false, List, [], ◌∷◌, ◌++◌, length, Some, None, refl, sym, ◌∙◌, ap, subst, arith}
+use Rattle.std.proofs.Common.{◌≡◌, ◌+◌, ℕ, true, false, List, [], ◌∷◌, ◌++◌, length, Some, None, refl, ap, subst, arith}
 use Rattle.sv_model.specs.declared.records.FileMeta.{FileMeta}
 use Rattle.sv_model.specs.After.{After}
 use Rattle.sv_model.specs.Books.{Books}
-use Rattle.sv_model.specs.Journal.{borne_by, of_family}
-use Rattle.sv_model.specs.Lists.{In}
+use Rattle.sv_model.specs.Journal.{borne_by}
 use Rattle.sv_model.specs.Reads.{IsOutput}
 use Rattle.sv_model.specs.Steady.{Sound}
 use Rattle.sv_laws.specs.Captures.{IsFlushBegun}
@@ -19,16 +18,17 @@ use Rattle.sv_replies.specs.Due.{due}
 use Rattle.sv_replies.specs.FlushLaw.{Flushes}
 use Rattle.sv_replies.specs.Known.{Known, file_made, flushed_to, learn, learns}
 use Rattle.sv_replies.specs.Knows.{Knows}
-use Rattle.sv_replies.specs.Outputs.{IsPlannedFor}
+use Rattle.sv_replies.specs.PlannedFlush.{IsPlannedFor}
 use Rattle.sv_replies.specs.ReplyFits.{ReplyFits}
 use Rattle.sv_replies.specs.Settings.{Setting}
 use Rattle.sv_replies.proofs.KnowsLaws.{knows-later}
-use Rattle.sv_replies.proofs.KnowsMore.{knows-file, knows-flush, of_handle}
+use Rattle.sv_replies.proofs.LearnLaws.{knows-file, knows-flush, of_handle}
 use Rattle.sv_replies.proofs.OutputLemmas.{below-next, is-output, reach_of-push, reaches}
-use Rattle.sv_replies.proofs.Refusals.{through}
+use Rattle.sv_replies.proofs.MetLaws.{through}
 
 -- Begun once the active memtable is empty, the file covers all that the lane had seen, under a number that is new to it.
-pub flush-planned : (a b : Books) (f : ℕ) (file : FileMeta) (k : Known) → Sound a → Knows a k → (h : IsFlushBegun a b f file)
+pub flush-planned : (a b : Books) (f : ℕ) (file : FileMeta) (k : Known) → Sound a → Knows a k
+    → (h : IsFlushBegun a b f file)
     → length (borne_by h.c.descriptor.active a.journal) ≡ 0 → IsPlannedFor k f file
 flush-planned a b f file k sound knows h empty = record {
   later = omega (arith, h.to_is, empty, ends-at a sound f h.s h.c h.is_open, (knows.families f).seen);
@@ -40,11 +40,13 @@ module _ (a b : Books) (f : ℕ) (file : FileMeta) (sound : Sound a) (h : IsFlus
   versions-are = ap (λ (x : Books). x.versions) h.is
 
   output : IsOutput b f file
-  output = is-output a b f file h.settled (h.version.files ++ file ∷ []) true h.covered (ap (λ (x : Books). x.metas) h.is)
+  output =
+      is-output a b f file h.settled (h.version.files ++ file ∷ []) true h.covered (ap (λ (x : Books). x.metas) h.is)
       (in-right file h.version.files (file ∷ []) (record { at = 0; is = refl })) versions-are
 
   file_is : file ≡ record { number = file.number; from = file.from; to = file.to; bottom = record { last = false; cuts = file.bottom.cuts } }
-  file_is = λ i. record { number = file.number; from = file.from; to = file.to; bottom = record { last = h.kind i; cuts = file.bottom.cuts } }
+  file_is =
+      λ i. record { number = file.number; from = file.from; to = file.to; bottom = record { last = h.kind i; cuts = file.bottom.cuts } }
 
   flushes : (k : Known) → IsPlannedFor k f file → Flushes b k file.number file.from file.to f
   flushes k planned = record {
@@ -58,7 +60,8 @@ module _ (a b : Books) (f : ℕ) (file : FileMeta) (sound : Sound a) (h : IsFlus
   pub flush-fits : (s : Setting) (k : Known) (name : List ℕ) → IsPlannedFor k f file → k.handles name ≡ Some f
       → due k (command.Flush name) ≡ None
       → ReplyFits s b k (command.Flush name) (reply.Flush file.number file.from file.to)
-  flush-fits s k name planned has none = (none, through (k.handles name) f (Flushes b k file.number file.from file.to) has (flushes k planned))
+  flush-fits s k name planned has none =
+      (none, through (k.handles name) f (Flushes b k file.number file.from file.to) has (flushes k planned))
 
   pub flush-knows : (k : Known) (name : List ℕ) → After a b → Knows a k → k.handles name ≡ Some f
       → Knows b (learn k (command.Flush name) (reply.Flush file.number file.from file.to))

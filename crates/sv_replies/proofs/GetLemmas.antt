@@ -1,21 +1,18 @@
 -- A get that was answered: why the reply fits, and what the lane then knows. It leaves the books.
-use Rattle.std.proofs.Common.{◌≡◌, ◌≤◌, ◌⊎◌, ⊎_elim, ℕ, true, List, length, Option, Some, None, refl, sym, ◌∙◌, ap, subst, arith}
+use Rattle.std.proofs.Common.{◌≡◌, ◌≤◌, ⊎_elim, ℕ, true, List, length, Option, Some, None, sym, ◌∙◌, ap, subst, arith}
 use Rattle.std.specs.Prelude.{IsSomeAnd, slice_get}
-use Rattle.sv_model.specs.declared.records.Descriptor.{Descriptor}
 use Rattle.sv_model.specs.declared.records.SuperVersion.{SuperVersion}
 use Rattle.sv_model.specs.declared.records.Family.{Family}
 use Rattle.sv_model.specs.Books.{Books, end_of}
 use Rattle.sv_model.specs.Described.{IsTop}
 use Rattle.sv_model.specs.Journal.{look, of_family}
 use Rattle.sv_model.specs.Lawful.{Lawful}
-use Rattle.sv_model.specs.Reads.{LooksAt, Serves}
-use Rattle.sv_model.specs.Registers.{entry}
+use Rattle.sv_model.specs.Reads.{Serves}
 use Rattle.sv_model.specs.Steady.{IsCurrent}
 use Rattle.sv_laws.proofs.Items.{some}
 use Rattle.sv_laws.proofs.OpenFamilies.{current-top}
 use Rattle.sv_script.specs.declared.commands.Command.TheVariants as command
 use Rattle.sv_script.specs.declared.replies.Reply.{Reply}
-use Rattle.sv_script.specs.declared.replies.Reply.TheVariants as reply
 use Rattle.sv_replies.specs.Due.{due}
 use Rattle.sv_replies.specs.Known.{Known, learn, read}
 use Rattle.sv_replies.specs.Knows.{Knows}
@@ -23,23 +20,27 @@ use Rattle.sv_replies.specs.GetLaw.{Gets}
 use Rattle.sv_replies.specs.ReadReply.{read_reply}
 use Rattle.sv_replies.specs.ReplyFits.{ReplyFits}
 use Rattle.sv_replies.specs.Settings.{Setting}
-use Rattle.sv_replies.specs.Standing.{IsIn, IsOf}
-use Rattle.sv_replies.proofs.KnowsMore.{ReadShows, ReadsWithin, knows-read, knows-touch, of_handle}
-use Rattle.sv_replies.proofs.Refusals.{through}
+use Rattle.sv_replies.specs.Unread.{FindsUnread}
+use Rattle.sv_replies.proofs.LearnLaws.{ReadShows, ReadsWithin, knows-read, knows-touch, of_handle}
+use Rattle.sv_replies.proofs.MetLaws.{through}
 
 -- a get that found this, at a cut and through a SuperVersion not before those that the lane was shown
 pub get-fits : (s : Setting) (b : Books) (k : Known) (name key : List ℕ) (f : ℕ) (found : Option (List ℕ)) (cut sv : ℕ)
     → k.handles name ≡ Some f → due k (command.Get name key) ≡ None → Gets s b k key found cut sv f
     → ReplyFits s b k (command.Get name key) (read_reply found cut sv)
-get-fits s b k name key f (Some value) cut sv has none gets = (none, through (k.handles name) f (Gets s b k key (Some value) cut sv) has gets)
-get-fits s b k name key f None cut sv has none gets = (none, through (k.handles name) f (Gets s b k key None cut sv) has gets)
+get-fits s b k name key f (Some value) cut sv has none gets =
+    (none, through (k.handles name) f (Gets s b k key (Some value) cut sv) has gets)
+get-fits s b k name key f None cut sv has none gets =
+    (none, through (k.handles name) f (Gets s b k key None cut sv) has gets)
 
-pub get-knows : (b : Books) (k : Known) (name key : List ℕ) (f : ℕ) (r : Reply) → Knows b k → k.handles name ≡ Some f → ReadShows b f r
+pub get-knows : (b : Books) (k : Known) (name key : List ℕ) (f : ℕ) (r : Reply) → Knows b k → k.handles name ≡ Some f
+    → ReadShows b f r
     → Knows b (learn k (command.Get name key) r)
 get-knows b k name key f r knows has shown =
     knows-touch b (read (k.handles name) r k) (k.handles name) (of_handle (λ z. Knows b (read z r k)) (k.handles name) f has (knows-read b k f r knows shown))
 
-pub shows-read : (b : Books) (f : ℕ) (found : Option (List ℕ)) (cut sv : ℕ) → ReadsWithin b f cut sv → ReadShows b f (read_reply found cut sv)
+pub shows-read : (b : Books) (f : ℕ) (found : Option (List ℕ)) (cut sv : ℕ) → ReadsWithin b f cut sv
+    → ReadShows b f (read_reply found cut sv)
 shows-read b f (Some value) cut sv h = h
 shows-read b f None cut sv h = h
 
@@ -73,10 +74,12 @@ module _ (b : Books) (law : Lawful b) (f n : ℕ) (x : SuperVersion) (current : 
 
   pub current-gets : (s : Setting) (k : Known) (key : List ℕ) (found : Option (List ℕ)) → Knows b k
       → (s.told ≡ true → look b.journal f (length (of_family f b.journal)) key ≡ found)
+      → FindsUnread b f key found (length (of_family f b.journal)) x
       → Gets s b k key found (length (of_family f b.journal)) n f
-  current-gets s k key found knows looked = record {
+  current-gets s k key found knows looked unread = record {
     later = (knows.families f).seen;
     newer = current-newest k knows;
     within = omega arith;
     looks = record { serves = subst (λ z. IsSomeAnd z (Serves b f (length (of_family f b.journal)))) (sym current.has) serves; found_is = looked };
+    unread = (x, current.has, unread);
   }

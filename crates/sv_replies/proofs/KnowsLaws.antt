@@ -1,33 +1,31 @@
 -- What a lane was told stays within the books as they go on, and what one more answer adds is within them.
-use Rattle.std.proofs.Common.{◌≡◌, ◌≢◌, ◌≤◌, ◌<◌, ◌==◌, ◌⊎◌, inl, inr, ⊎_elim, ℕ, Bool, true, false, max, List, length, Option, Some, None, refl, sym, ◌∙◌, ap, subst, arith}
-use Rattle.std.specs.Prelude.{slice_get, if◌then◌else◌, bytes_eq}
+use Rattle.std.proofs.Common.{◌≡◌, ◌≢◌, ◌≤◌, ◌⊎◌, inl, inr, ⊎_elim, ℕ, Bool, true, false, max, List, length, Option, Some, refl, sym, ap, subst, arith}
+use Rattle.std.specs.Prelude.{if◌then◌else◌, bytes_eq}
 use Rattle.std.proofs.Math.Nat.{max-le, le-max_left, le-max_right}
 use Rattle.std.proofs.lemmas.Bool.{cases_lt}
 use Rattle.std.proofs.lemmas.Bool.Decides.{eqb_tells}
 use Rattle.std.proofs.lemmas.Slice.Eq.{bytes_eq-Decides}
-use Rattle.sv_model.specs.declared.records.Snapshot.{Snapshot}
-use Rattle.sv_model.specs.declared.records.Top.{Top}
 use Rattle.sv_model.specs.After.{After, KeepsSnapshot}
-use Rattle.sv_model.specs.Books.{Books, files_of}
+use Rattle.sv_model.specs.Books.{Books}
 use Rattle.sv_model.specs.Journal.{of_family}
-use Rattle.sv_model.specs.Ranges.{reach_of}
-use Rattle.sv_model.specs.Registers.{entry}
-use Rattle.sv_replies.specs.Known.{FamilyKnown, Known, Pinned, as_dropped, flushed_to, learns, met, reached_to, saw, with_at, with_handle}
+use Rattle.sv_replies.specs.Known.{FamilyKnown, Known, as_dropped, flushed_to, learns, met, reached_to, saw, with_at, with_handle}
 use Rattle.sv_replies.specs.Knows.{Knows, KnowsFamily, LastReaches}
-use Rattle.sv_replies.specs.Standing.{IsAt, IsIn, IsNamed, IsOf, WasDropped}
+use Rattle.sv_replies.specs.Moments.{IsAt, IsIn, IsOf, WasDropped}
 use Rattle.sv_replies.specs.SnapLaw.{IsOver}
-use Rattle.sv_replies.proofs.Lasting.{continues-length, count-later, dropped-later, goes_on-length, in-register, named-later, of-later}
+use Rattle.sv_replies.proofs.AfterLemmas.{count-later, dropped-later, goes_on-length, in-register, named-later, of-later}
 
 -- ---- as books go on
 
 -- the files of a family's last Version reach as far
-pub reach-later : (a b : Books) (family upto : ℕ) → After a b → IsAt (LastReaches a upto) a.tops family → IsAt (LastReaches b upto) b.tops family
+pub reach-later : (a b : Books) (family upto : ℕ) → After a b → IsAt (LastReaches a upto) a.tops family
+    → IsAt (LastReaches b upto) b.tops family
 reach-later a b family upto after h =
     let at = after.tops family h.0 h.1 in
     (at.0, at.1, omega (arith, h.2, at.2.reach))
 
 pub over-later : (a b : Books) (n : ℕ) → After a b → IsIn IsOver a.snapshots n → IsIn IsOver b.snapshots n
-over-later a b n after h = in-register KeepsSnapshot IsOver IsOver (λ x y kept is. kept.gone is) a.snapshots b.snapshots n after.snapshots h
+over-later a b n after h =
+    in-register KeepsSnapshot IsOver IsOver (λ x y kept is. kept.gone is) a.snapshots b.snapshots n after.snapshots h
 
 knows_family-later : (a b : Books) (f : ℕ) (x : FamilyKnown) → After a b → KnowsFamily a f x → KnowsFamily b f x
 knows_family-later a b f x after h = record {
@@ -65,7 +63,8 @@ at-other f at x n d = ⊎_elim
     (eqb_tells n at)
 
 -- what holds of each answer, and of the other one
-pub at_holds : {A : Type 0} (P : ℕ → A → Type 0) (f : ℕ → A) (at : ℕ) (x : A) → ((n : ℕ) → P n (f n)) → P at x → (n : ℕ) → P n (with_at f at x n)
+pub at_holds : {A : Type 0} (P : ℕ → A → Type 0) (f : ℕ → A) (at : ℕ) (x : A) → ((n : ℕ) → P n (f n)) → P at x
+    → (n : ℕ) → P n (with_at f at x n)
 at_holds {A} P f at x each here n = ⊎_elim
     (λ is. subst (λ (y : A). P n y) (sym (at-here f at x n is.1)) (subst (λ m. P m x) (sym is.1) here))
     (λ other. subst (λ (y : A). P n y) (sym (at-other f at x n other.1)) (each n))
@@ -80,7 +79,8 @@ unequal x y = at (bytes_eq x y) refl
 
 -- the same of names
 pub handle_holds : (P : List ℕ → Option ℕ → Type 0) (handles : List ℕ → Option ℕ) (name : List ℕ) (f : Option ℕ)
-    → ((other : List ℕ) → P other (handles other)) → P name f → (other : List ℕ) → P other (with_handle handles name f other)
+    → ((other : List ℕ) → P other (handles other)) → P name f → (other : List ℕ)
+    → P other (with_handle handles name f other)
 handle_holds P handles name f each here other = ⊎_elim
     (λ is.
     let same : other ≡ name = (bytes_eq-Decides other name).0 is in
@@ -124,7 +124,8 @@ max_more n m to le = omega (arith, le, le-max_left m to)
 
 module _ (b : Books) (f : ℕ) (x : FamilyKnown) (h : KnowsFamily b f x) where
   pub knows-saw : (n : ℕ) → n ≤ length (of_family f b.journal) → KnowsFamily b f (saw n x)
-  knows-saw n within = record { seen = max-le h.seen within; serial = h.serial; flushed = h.flushed; reached = h.reached; dropped = h.dropped }
+  knows-saw n within =
+      record { seen = max-le h.seen within; serial = h.serial; flushed = h.flushed; reached = h.reached; dropped = h.dropped }
 
   pub knows-met : (sv : ℕ) → IsIn (IsOf f) b.supers sv → KnowsFamily b f (met sv x)
   knows-met sv of = record {
@@ -154,4 +155,5 @@ module _ (b : Books) (f : ℕ) (x : FamilyKnown) (h : KnowsFamily b f x) where
   }
 
   pub knows-dropped : WasDropped b f → KnowsFamily b f (as_dropped x)
-  knows-dropped is = record { seen = h.seen; serial = h.serial; flushed = h.flushed; reached = h.reached; dropped = λ e. is }
+  knows-dropped is =
+      record { seen = h.seen; serial = h.serial; flushed = h.flushed; reached = h.reached; dropped = λ e. is }

@@ -6,7 +6,7 @@ use Rattle.sv_model.specs.declared.records.FileMeta.{FileMeta}
 use Rattle.sv_model.specs.declared.records.SuperVersion.{SuperVersion}
 use Rattle.sv_model.specs.declared.records.Version.{Version}
 use Rattle.sv_model.specs.Books.{Books}
-use Rattle.sv_model.specs.Described.{Describes, IsFileOf}
+use Rattle.sv_model.specs.Described.{IsFileOf}
 use Rattle.sv_model.specs.Lists.{In}
 use Rattle.sv_model.specs.Moments.{WasCapturedFor}
 use Rattle.sv_model.specs.Named.{numbers_of}
@@ -25,7 +25,7 @@ use Rattle.sv_replies.specs.Listed.{AreCurrentFiles, IsCurrentFile, StandingHave
 use Rattle.sv_replies.specs.LiveLaw.{CoversFamily, IsListedFor, Lives}
 use Rattle.sv_replies.specs.ReplyFits.{ReplyFits}
 use Rattle.sv_replies.specs.Settings.{Setting}
-use Rattle.sv_replies.proofs.Lasting.{one_family}
+use Rattle.sv_replies.proofs.AfterLemmas.{one_family}
 use Rattle.sv_replies.proofs.MomentLemmas.{reached}
 
 -- the file of a number
@@ -46,7 +46,8 @@ module _ (b : Books) (sound : Sound b) (k : Known) (knows : Knows b k) (numbers 
   open-at n c = record { current = c.current; family = c.it; family_at = c.at; stands = c.stands }
 
   -- a file of a current Version is the family's
-  of-family : (f s : ℕ) (x : SuperVersion) → IsOpen b f s x → (version : Version) → entry b.versions x.descriptor.version ≡ Some version
+  of-family : (f s : ℕ) (x : SuperVersion) → IsOpen b f s x → (version : Version)
+      → entry b.versions x.descriptor.version ≡ Some version
       → (n : ℕ) → In n (numbers_of version.files) → WasCapturedFor b f n
   of-family f s x o version at n has =
       let d = says b sound f s x o in
@@ -60,7 +61,8 @@ module _ (b : Books) (sound : Sound b) (k : Known) (knows : Knows b k) (numbers 
   captured n c = of-family c.family c.s c.x (open-at n c) c.version c.version_at n c.has
 
   -- one that is captured for a family is of its current Version
-  listed : (f s : ℕ) (x : SuperVersion) → IsCurrent b.tops b.supers f s x → (version : Version) → entry b.versions x.descriptor.version ≡ Some version
+  listed : (f s : ℕ) (x : SuperVersion) → IsCurrent b.tops b.supers f s x → (version : Version)
+      → entry b.versions x.descriptor.version ≡ Some version
       → (n : ℕ) → IsListedFor b numbers f n → In n (numbers_of version.files)
   listed f s x current version at n l =
       let c = (h.exact n).0 l.listed in
@@ -69,7 +71,8 @@ module _ (b : Books) (sound : Sound b) (k : Known) (knows : Knows b k) (numbers 
       let versions : c.version ≡ version = some (sym c.version_at ∙ ap (λ (z : SuperVersion). entry b.versions z.descriptor.version) its ∙ at) in
       subst (λ (v : Version). In n (numbers_of v.files)) versions c.has
 
-  covers : StandingHaveCurrents b → (f : ℕ) (y : Family) → slice_get b.families f ≡ Some y → y.dropped ≡ false → CoversFamily b (k.families f).reached f numbers
+  covers : StandingHaveCurrents b → (f : ℕ) (y : Family) → slice_get b.families f ≡ Some y → y.dropped ≡ false
+      → CoversFamily b (k.families f).reached f numbers
   covers all f y at stands =
       let t = all f y at stands in
       let o : IsOpen b f t.s t.x = record { current = t.current; family = y; family_at = at; stands = stands } in
@@ -97,5 +100,6 @@ module _ (b : Books) (sound : Sound b) (k : Known) (knows : Knows b k) (numbers 
     covers = covers all;
   }
 
-  pub live-fits : (s : Setting) → StandingHaveCurrents b → due k command.Live ≡ None → ReplyFits s b k command.Live (reply.Live numbers)
+  pub live-fits : (s : Setting) → StandingHaveCurrents b → due k command.Live ≡ None
+      → ReplyFits s b k command.Live (reply.Live numbers)
   live-fits s all none = (none, lives all)

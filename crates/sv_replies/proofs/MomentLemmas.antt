@@ -1,12 +1,9 @@
 -- What the books of a moment, in which a call was refused, say of what the lane was told.
-use Rattle.std.proofs.Common.{◌≡◌, ◌<◌, ◌≤◌, ◌+◌, ◌⊎◌, inl, inr, ⊎_elim, ℕ, zero, suc, Bool, true, false, cond, List, [], ◌∷◌, length, Option, Some, None, refl, sym, ◌∙◌, ap, subst, arith}
-use Rattle.std.specs.Prelude.{slice_get}
-use Rattle.sv_model.specs.declared.records.Family.{Family}
+use Rattle.std.proofs.Common.{◌≡◌, ◌<◌, ◌≤◌, ◌+◌, inl, inr, ⊎_elim, ℕ, zero, suc, Bool, true, false, List, [], ◌∷◌, length, Some, refl, sym, ◌∙◌, ap, subst, arith}
 use Rattle.sv_model.specs.declared.records.FileMeta.{FileMeta}
 use Rattle.sv_model.specs.declared.records.MemtableList.{MemtableList}
 use Rattle.sv_model.specs.declared.records.Memtable.{Memtable}
 use Rattle.sv_model.specs.declared.records.SuperVersion.{SuperVersion}
-use Rattle.sv_model.specs.declared.records.Top.{Top}
 use Rattle.sv_model.specs.declared.records.Version.{Version}
 use Rattle.sv_model.specs.Books.{Books, files_of}
 use Rattle.sv_model.specs.Described.{Describes, IsFileOf, MembersJoin}
@@ -24,7 +21,7 @@ use Rattle.sv_laws.proofs.OpenFamilies.{ends-at, last-files, member, of_f, says}
 use Rattle.sv_laws.proofs.StillFits.{join-le, join_reach}
 use Rattle.sv_replies.specs.Known.{Known}
 use Rattle.sv_replies.specs.Knows.{Knows}
-use Rattle.sv_replies.specs.Standing.{NamedAreDropped, WasMerged}
+use Rattle.sv_replies.specs.Moments.{NamedAreDropped, WasMerged}
 
 -- ---- counts
 
@@ -49,7 +46,8 @@ not_less m n e lt = absurd (omega (arith, e, lt))
 -- ---- families
 
 -- no family stands that has the name
-pub none_stands : (a : Books) (k : Known) (name : List ℕ) → Knows a k → (Has (IsStanding name) a.families → ⊥) → NamedAreDropped a k name
+pub none_stands : (a : Books) (k : Known) (name : List ℕ) → Knows a k → (Has (IsStanding name) a.families → ⊥)
+    → NamedAreDropped a k name
 none_stands a k name knows none id is =
     let x = knows.named name id is in
     (x.0, x.1, by x.0.dropped refl)
@@ -63,7 +61,8 @@ none_stands a k name knows none id is =
 -- ---- files and memtables
 
 -- the last of files ends where they reach
-last_reaches : (files : List FileMeta) (from : ℕ) → 0 < length files → (file : FileMeta) × In file files × (file.to ≡ reach_from from files)
+last_reaches : (files : List FileMeta) (from : ℕ) → 0 < length files
+    → (file : FileMeta) × In file files × (file.to ≡ reach_from from files)
 last_reaches [] from more = absurd (omega (arith, more))
 last_reaches (f ∷ []) from more = (f, record { at = 0; is = refl }, refl)
 last_reaches (f ∷ g ∷ files) from more =
@@ -106,9 +105,12 @@ module _ (a : Books) (f s : ℕ) (c : SuperVersion) (sound : Sound a) (o : IsOpe
   )
 
   abbrev first-of : List ℕ → Type 0
-  first-of members = (m : ℕ) × In m members × ((it : Memtable) × (entry a.memtables m ≡ Some it) × BeginsFrom f (k.families f).flushed it)
+  first-of members =
+      (m : ℕ) × In m members × ((it : Memtable) × (entry a.memtables m ≡ Some it) × BeginsFrom f (k.families f).flushed it)
 
-  first : (members : List ℕ) → 0 < length members → MembersJoin a.journal a.memtables c.descriptor.family named.middle members c.descriptor.base → first-of members
+  first : (members : List ℕ) → 0 < length members
+      → MembersJoin a.journal a.memtables c.descriptor.family named.middle members c.descriptor.base
+      → first-of members
   first [] more joins = absurd (omega (arith, more))
   first (m ∷ members) more joins = (
     m,
@@ -117,7 +119,8 @@ module _ (a : Books) (f s : ℕ) (c : SuperVersion) (sound : Sound a) (o : IsOpe
   )
 
   -- Stalled: the list has a member.
-  pub was-stalled : (list : MemtableList) → entry a.lists c.descriptor.list ≡ Some list → 0 < length list.members → WasStalled a f (k.families f).flushed
+  pub was-stalled : (list : MemtableList) → entry a.lists c.descriptor.list ≡ Some list → 0 < length list.members
+      → WasStalled a f (k.families f).flushed
   unfolding active
   was-stalled list at more =
       let same : named.list ≡ list = some (sym named.list_at ∙ at) in
@@ -146,24 +149,29 @@ module _ (a : Books) (f s : ℕ) (c : SuperVersion) (sound : Sound a) (o : IsOpe
       let whole : named.middle ≡ length (of_family f a.journal) = omega (arith, base, empty, ends-at a sound f s c o) in
       by (k.families f).seen refl whole
     where
-      no_members : (members : List ℕ) → length members ≡ 0 → MembersJoin a.journal a.memtables c.descriptor.family named.middle members c.descriptor.base → named.middle ≡ c.descriptor.base
+      no_members : (members : List ℕ) → length members ≡ 0
+          → MembersJoin a.journal a.memtables c.descriptor.family named.middle members c.descriptor.base
+          → named.middle ≡ c.descriptor.base
       no_members [] none joins = joins
       no_members (m ∷ members) none joins = absurd (omega (arith, none))
 
-      by : (n : ℕ) → (k.families f).seen ≡ n → named.middle ≡ length (of_family f a.journal) → WasFlushed a f (k.families f).seen
+      by : (n : ℕ) → (k.families f).seen ≡ n → named.middle ≡ length (of_family f a.journal)
+          → WasFlushed a f (k.families f).seen
       by zero e whole = inl e
       by (suc n) e whole =
           let last = last_reaches named.version.files 0 (reaches_none named.version.files (omega (arith, middle_is, whole, (knows.families f).seen, e))) in
           inr (last.0, is_file last.0 (k.families f).seen last.1 (omega (arith, last.2, middle_is, whole, (knows.families f).seen)))
 
   -- Nothing to compact: the Version has no file, or one with nothing below it.
-  pub was-merged-none : (version : Version) → entry a.versions c.descriptor.version ≡ Some version → version.files ≡ [] → WasMerged a f (k.families f).flushed
+  pub was-merged-none : (version : Version) → entry a.versions c.descriptor.version ≡ Some version
+      → version.files ≡ [] → WasMerged a f (k.families f).flushed
   was-merged-none version at none =
       let same : named.version ≡ version = some (sym named.version_at ∙ at) in
       let reach : reach_of named.version.files ≡ 0 = ap (λ (z : Version). reach_of z.files) same ∙ ap reach_of none in
       inl (omega (arith, flushed, middle_is, reach))
 
-  pub was-merged-one : (version : Version) (file : FileMeta) → entry a.versions c.descriptor.version ≡ Some version → version.files ≡ file ∷ []
+  pub was-merged-one : (version : Version) (file : FileMeta) → entry a.versions c.descriptor.version ≡ Some version
+      → version.files ≡ file ∷ []
       → file.bottom.last ≡ true → WasMerged a f (k.families f).flushed
   was-merged-one version file at one last =
       let same : named.version ≡ version = some (sym named.version_at ∙ at) in

@@ -1,12 +1,10 @@
 -- The file of a flush or a compaction that ended: it is an output of the family, and its number was drawn before.
-use Rattle.std.proofs.Common.{◌≡◌, ◌<◌, ◌≤◌, ◌+◌, ℕ, Bool, List, [], ◌∷◌, ◌++◌, length, Some, refl, sym, ◌∙◌, ap, subst, arith}
+use Rattle.std.proofs.Common.{◌≡◌, ◌<◌, ◌+◌, ℕ, Bool, List, [], ◌∷◌, ◌++◌, length, Some, refl, sym, ◌∙◌, ap, subst, arith}
 use Rattle.std.specs.Prelude.{slice_get, slice_set}
 use Rattle.sv_model.specs.declared.records.FileMeta.{FileMeta}
 use Rattle.sv_model.specs.declared.records.FileStatus.TheVariants.{Pending, Live}
-use Rattle.sv_model.specs.declared.records.RegisteredFile.{RegisteredFile}
 use Rattle.sv_model.specs.declared.records.Top.{Top}
-use Rattle.sv_model.specs.declared.records.Version.{Version}
-use Rattle.sv_model.specs.Books.{Books, files_of}
+use Rattle.sv_model.specs.Books.{Books}
 use Rattle.sv_model.specs.Lists.{In}
 use Rattle.sv_model.specs.Moments.{WasCapturedFor}
 use Rattle.sv_model.specs.Numbers.{IsSettled}
@@ -19,7 +17,7 @@ use Rattle.sv_laws.proofs.Settled.{marked-here}
 use Rattle.sv_laws.proofs.Growing.{placed-set}
 use Rattle.sv_laws.proofs.StillFits.{files-at}
 use Rattle.sv_replies.specs.Knows.{LastReaches}
-use Rattle.sv_replies.specs.Standing.{IsAt}
+use Rattle.sv_replies.specs.Moments.{IsAt}
 
 reach_from-push : (from : ℕ) (files : List FileMeta) (file : FileMeta) → reach_from from (files ++ file ∷ []) ≡ file.to
 reach_from-push from [] file = refl
@@ -38,7 +36,8 @@ module _ (a b : Books) (f : ℕ) (file : FileMeta) (settled : IsSettled f file.n
   )
 
   pub below-next : Sound a → file.number < a.files.next
-  below-next sound = omega (arith, sound.lawful.numbers.below settled.numbers.at settled.numbers.it settled.numbers.found, settled.numbers.had.number_is)
+  below-next sound =
+      omega (arith, sound.lawful.numbers.below settled.numbers.at settled.numbers.it settled.numbers.found, settled.numbers.had.number_is)
 
   -- the Version made last has the file
   pub is-output : (files : List FileMeta) (live : Bool) → In file a.metas → b.metas ≡ a.metas → In file files
@@ -55,7 +54,8 @@ module _ (a b : Books) (f : ℕ) (file : FileMeta) (settled : IsSettled f file.n
   }
 
   -- and is the family's last one
-  pub reaches : (files : List FileMeta) (live : Bool) (t u : Top) → slice_get a.tops f ≡ Some t → u.last ≡ length a.versions + 1
+  pub reaches : (files : List FileMeta) (live : Bool) (t u : Top) → slice_get a.tops f ≡ Some t
+      → u.last ≡ length a.versions + 1
       → b.tops ≡ slice_set a.tops f u → b.versions ≡ a.versions ++ record { files = files; live = live } ∷ []
       → reach_of files ≡ file.to → IsAt (LastReaches b file.to) b.tops f
   reaches files live t u at last tops versions reach = (

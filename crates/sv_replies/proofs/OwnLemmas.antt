@@ -1,23 +1,20 @@
 -- What the lane alone changes, in the books and in what it was told: its handles, its holds and its accepted writes.
-use Rattle.std.proofs.Common.{◌≡◌, ◌<◌, ◌≤◌, ◌+◌, ◌≢◌, ◌⊎◌, ◌↔◌, ◌==◌, inl, inr, ⊎_elim, ℕ, suc, Bool, true, false, cond, List, [], ◌∷◌, ◌++◌, length, Option, Some, None, refl, sym, ◌∙◌, ap, subst, arith, eq-eqb}
-use Rattle.std.specs.Prelude.{slice_get, slice_set, if◌then◌else◌, bytes_eq}
+use Rattle.std.proofs.Common.{◌≡◌, ◌+◌, ◌≢◌, ◌⊎◌, ◌↔◌, ◌==◌, inl, inr, ⊎_elim, ℕ, Bool, true, false, cond, List, [], ◌∷◌, ◌++◌, length, Option, Some, None, sym, ◌∙◌, ap, subst, eq-eqb}
+use Rattle.std.specs.Prelude.{slice_get, if◌then◌else◌}
 use Rattle.std.proofs.lemmas.List.{length_push}
 use Rattle.std.proofs.lemmas.List.Elements.{filter-append}
 use Rattle.std.proofs.lemmas.Slice.Eq.{bytes_eq-Decides}
 use Rattle.sv_model.specs.declared.records.Family.{Family}
 use Rattle.sv_model.specs.declared.writes.Write.{Write}
 use Rattle.sv_model.specs.Books.{Books}
-use Rattle.sv_model.specs.Families.{HasHandle, IsOwn}
+use Rattle.sv_model.specs.Families.{IsOwn}
 use Rattle.sv_model.specs.Journal.{by_lane}
-use Rattle.sv_laws.specs.Families.{IsDropped, IsOpened, IsReleased, IsRetired, released}
-use Rattle.sv_laws.specs.NewCurrents.{IsFamilyMade}
 use Rattle.sv_laws.specs.Writes.{IsWritten}
-use Rattle.sv_laws.proofs.Growing.{get_within, placed-push, placed-set}
 use Rattle.sv_laws.proofs.Items.{some}
 use Rattle.sv_laws.specs.Growing.{IsPlaced}
-use Rattle.sv_replies.specs.Known.{Known, has_handle, learns, saw, with_handle, wrote}
+use Rattle.sv_replies.specs.Known.{Known, has_handle, with_handle, wrote}
 use Rattle.sv_replies.specs.Knows.{OwnAre}
-use Rattle.sv_replies.specs.Standing.{IsAt}
+use Rattle.sv_replies.specs.Moments.{IsAt}
 use Rattle.sv_replies.proofs.KnowsLaws.{unequal}
 use Rattle.sv_model.proofs.Basics.{apart_or}
 
@@ -31,7 +28,8 @@ pub record KeepsOwn (lane : ℕ) (a b : Books) : Type 0 where
   pub holds : slice_get b.files.holds lane ≡ slice_get a.files.holds lane
   pub writes : by_lane lane b.journal ≡ by_lane lane a.journal
 
-pub own-kept : (lane : ℕ) (a b : Books) (k l : Known) → KeepsOwn lane a b → l.handles ≡ k.handles → l.holds ≡ k.holds → l.accepted ≡ k.accepted
+pub own-kept : (lane : ℕ) (a b : Books) (k l : Known) → KeepsOwn lane a b → l.handles ≡ k.handles → l.holds ≡ k.holds
+    → l.accepted ≡ k.accepted
     → OwnAre lane a k → OwnAre lane b l
 own-kept lane a b k l keeps handles holds accepted own = record {
   handles = λ name f. (
@@ -43,7 +41,8 @@ own-kept lane a b k l keeps handles holds accepted own = record {
 }
 
 -- the families, the holds and the journal stand
-pub keeps-all : (lane : ℕ) (a b : Books) → b.families ≡ a.families → b.files.holds ≡ a.files.holds → b.journal ≡ a.journal → KeepsOwn lane a b
+pub keeps-all : (lane : ℕ) (a b : Books) → b.families ≡ a.families → b.files.holds ≡ a.files.holds
+    → b.journal ≡ a.journal → KeepsOwn lane a b
 keeps-all lane a b families holds journal = record {
   handles = λ name f. (
     λ at. subst (λ (l : List Family). Own lane name l f) (sym families) at,
@@ -54,8 +53,10 @@ keeps-all lane a b families holds journal = record {
 }
 
 -- a family keeps its name and the lane's handle
-placed_own : (lane : ℕ) (a b : List Family) (f : ℕ) (x y : Family) → IsPlaced a b f y → slice_get a f ≡ Some x → y.name ≡ x.name
-    → slice_get y.handles lane ≡ slice_get x.handles lane → (name : List ℕ) (g : ℕ) → Own lane name a g ↔ Own lane name b g
+pub placed_own : (lane : ℕ) (a b : List Family) (f : ℕ) (x y : Family) → IsPlaced a b f y → slice_get a f ≡ Some x
+    → y.name ≡ x.name
+    → slice_get y.handles lane ≡ slice_get x.handles lane → (name : List ℕ) (g : ℕ)
+    → Own lane name a g ↔ Own lane name b g
 placed_own lane a b f x y placed at named handle name g = elim (apart_or g f) [
   | inl here ↦ (
     λ own.
@@ -74,7 +75,7 @@ placed_own lane a b f x y placed at named handle name g = elim (apart_or g f) [
 -- ---- a write of the lane
 
 module _ (lane : ℕ) (a b : Books) (f : ℕ) (w : Write) (h : IsWritten a b f w) (mine : w.lane ≡ lane) where
-  lane-writes : by_lane lane b.journal ≡ by_lane lane a.journal ++ w ∷ []
+  pub lane-writes : by_lane lane b.journal ≡ by_lane lane a.journal ++ w ∷ []
   lane-writes =
       ap (λ (x : Books). by_lane lane x.journal) h.is ∙ filter-append (λ (z : Write). z.lane == lane) a.journal (w ∷ [])
       ∙ ap (λ q. by_lane lane a.journal ++ cond q (w ∷ []) []) (eq-eqb w.lane lane mine)
@@ -105,7 +106,7 @@ module _ (lane : ℕ) (handles : List ℕ → Option ℕ) (name : List ℕ) (o :
       (λ apart. ap (λ (q : Bool). if q then o else handles other) apart)
       (unequal other name)
 
-name_or : (x y : List ℕ) → (x ≡ y) ⊎ (x ≢ y)
+pub name_or : (x y : List ℕ) → (x ≡ y) ⊎ (x ≢ y)
 name_or x y = ⊎_elim
     (λ same. inl ((bytes_eq-Decides x y).0 same))
     (λ apart. inr (λ e. absurd (let q : true ≡ false = sym ((bytes_eq-Decides x y).1 e) ∙ apart in cc)))

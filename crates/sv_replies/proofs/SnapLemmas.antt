@@ -1,17 +1,14 @@
 -- Snapshots are taken, read at and ended: why the replies fit, and what the lane then knows.
-use Rattle.std.proofs.Common.{◌≡◌, ◌<◌, ◌≤◌, ◌+◌, ◌⊎◌, ⊎_elim, ℕ, Bool, true, false, List, [], ◌∷◌, ◌++◌, length, take, Option, Some, None, refl, sym, ◌∙◌, ap, subst, arith}
+use Rattle.std.proofs.Common.{◌≡◌, ◌+◌, ℕ, Bool, true, false, List, length, take, Option, Some, None, refl, sym, ◌∙◌, ap, arith}
 use Rattle.std.proofs.lemmas.List.{take_all}
 use Rattle.sv_model.specs.declared.records.Snapshot.{Snapshot}
 use Rattle.sv_model.specs.declared.writes.Write.{Write}
-use Rattle.sv_model.specs.declared.refusals.Refusal.TheVariants as refusal
 use Rattle.sv_model.specs.After.{After}
 use Rattle.sv_model.specs.Books.{Books}
 use Rattle.sv_model.specs.Journal.{by_lane, of_family}
 use Rattle.sv_model.specs.Registers.{entry}
-use Rattle.sv_model.specs.Snapshots.{cut_of}
 use Rattle.sv_model.proofs.Registers.{entry-new, entry-same, entry_le}
 use Rattle.sv_laws.specs.Snapping.{IsSnapped, IsUnsnapped}
-use Rattle.sv_laws.proofs.CutLaws.{cut-now}
 use Rattle.sv_laws.proofs.Items.{some}
 use Rattle.sv_script.specs.declared.commands.Command.TheVariants as command
 use Rattle.sv_script.specs.declared.replies.Reply.{Reply}
@@ -23,11 +20,11 @@ use Rattle.sv_replies.specs.Knows.{AllAreOwn, Knows}
 use Rattle.sv_replies.specs.ReadReply.{read_reply}
 use Rattle.sv_replies.specs.ReplyFits.{ReplyFits}
 use Rattle.sv_replies.specs.Settings.{Setting}
-use Rattle.sv_replies.specs.SnapLaw.{IsOver, MayUse, NoSuch, Snaps}
-use Rattle.sv_replies.specs.Standing.{IsIn, IsOf}
+use Rattle.sv_replies.specs.SnapLaw.{IsOver, MayUse, NoSuch}
+use Rattle.sv_replies.specs.Moments.{IsIn, IsOf}
 use Rattle.sv_replies.proofs.KnowsLaws.{at_holds, knows-later}
-use Rattle.sv_replies.proofs.KnowsMore.{knows-serial, of_handle}
-use Rattle.sv_replies.proofs.Refusals.{through}
+use Rattle.sv_replies.proofs.LearnLaws.{knows-serial, of_handle}
+use Rattle.sv_replies.proofs.MetLaws.{through}
 
 -- ---- what is known
 
@@ -35,7 +32,8 @@ abbrev IsMade : Books → ℕ → Type 0
 IsMade b n = (x : Snapshot) × (entry b.snapshots n ≡ Some x)
 
 -- a snapshot that was made
-pub knows-snapshot : (b : Books) (k : Known) (n : ℕ) → Knows b k → IsMade b n → Knows b (record k { snapshots = with_at k.snapshots n true })
+pub knows-snapshot : (b : Books) (k : Known) (n : ℕ) → Knows b k → IsMade b n
+    → Knows b (record k { snapshots = with_at k.snapshots n true })
 knows-snapshot b k n h made = record {
   families = h.families;
   handles = h.handles;
@@ -48,7 +46,8 @@ knows-snapshot b k n h made = record {
 }
 
 -- one that is over
-pub knows-ended : (b : Books) (k : Known) (n : ℕ) → Knows b k → IsIn IsOver b.snapshots n → Knows b (record k { ended = with_at k.ended n true })
+pub knows-ended : (b : Books) (k : Known) (n : ℕ) → Knows b k → IsIn IsOver b.snapshots n
+    → Knows b (record k { ended = with_at k.ended n true })
 knows-ended b k n h over = record {
   families = h.families;
   handles = h.handles;
@@ -65,7 +64,8 @@ apart true h = absurd (h refl)
 apart false h = refl
 
 live_over : (x y : Snapshot) → Some x ≡ Some y → x.live ≡ true → y.live ≡ false → ⊥
-live_over x y e live over = absurd (let d : true ≡ false = sym live ∙ ap (λ (z : Snapshot). z.live) (some e) ∙ over in cc)
+live_over x y e live over =
+    absurd (let d : true ≡ false = sym live ∙ ap (λ (z : Snapshot). z.live) (some e) ∙ over in cc)
 
 -- a lane may use what is Live
 pub may-use : (s : Setting) (b : Books) (k : Known) (n : ℕ) (x : Snapshot) → Knows b k → (s.lanes ≡ 1 → AllAreOwn b k)
@@ -103,7 +103,8 @@ module _ (a b : Books) (h : IsSnapped a b) where
     },
   )
 
-  pub snap-knows : (k : Known) (n at : ℕ) → After a b → Knows a k → n ≡ length a.snapshots + 1 → Knows b (learn k command.Snap (reply.Snap n at))
+  pub snap-knows : (k : Known) (n at : ℕ) → After a b → Knows a k → n ≡ length a.snapshots + 1
+      → Knows b (learn k command.Snap (reply.Snap n at))
   snap-knows k n at after knows number = knows-snapshot b k n (knows-later a b k after knows) (it, snapped_at n number)
 
 -- ---- ended
@@ -116,7 +117,8 @@ module _ (a b : Books) (n : ℕ) (x : Snapshot) (h : IsUnsnapped a b n x) where
     refl,
   )
 
-  pub unsnap-fits : (s : Setting) (k : Known) → Knows a k → (s.lanes ≡ 1 → AllAreOwn a k) → ReplyFits s b k (command.Unsnap n) reply.Unsnap
+  pub unsnap-fits : (s : Setting) (k : Known) → Knows a k → (s.lanes ≡ 1 → AllAreOwn a k)
+      → ReplyFits s b k (command.Unsnap n) reply.Unsnap
   unsnap-fits s k knows alone = (refl, record { may = may-use s a k n x knows alone h.at h.live; over = is-over })
 
   pub unsnap-knows : (k : Known) → After a b → Knows a k → Knows b (learn k (command.Unsnap n) reply.Unsnap)
@@ -129,8 +131,10 @@ module _ (a b : Books) (n : ℕ) (x : Snapshot) (h : IsUnsnapped a b n x) where
 pub gets-fits : (s : Setting) (b : Books) (k : Known) (n : ℕ) (name key : List ℕ) (f : ℕ) (found : Option (List ℕ)) (cut sv : ℕ)
     → k.handles name ≡ Some f → due k (command.Gets n name key) ≡ None → GetsAt s b k n key found cut sv f
     → ReplyFits s b k (command.Gets n name key) (read_reply found cut sv)
-gets-fits s b k n name key f (Some value) cut sv has none gets = (none, through (k.handles name) f (GetsAt s b k n key (Some value) cut sv) has gets)
-gets-fits s b k n name key f None cut sv has none gets = (none, through (k.handles name) f (GetsAt s b k n key None cut sv) has gets)
+gets-fits s b k n name key f (Some value) cut sv has none gets =
+    (none, through (k.handles name) f (GetsAt s b k n key (Some value) cut sv) has gets)
+gets-fits s b k n name key f None cut sv has none gets =
+    (none, through (k.handles name) f (GetsAt s b k n key None cut sv) has gets)
 
 -- the serial that a read shows
 abbrev pub ShowsSerial : Books → ℕ → Reply → Type 0
@@ -138,14 +142,19 @@ ShowsSerial b f (reply.Found value cut sv) = IsIn (IsOf f) b.supers sv
 ShowsSerial b f (reply.Absent cut sv) = IsIn (IsOf f) b.supers sv
 ShowsSerial b f r = Unit {0}
 
-knows-read_at : (b : Books) (k : Known) (n f : ℕ) (r : Reply) → Knows b k → IsMade b n → ShowsSerial b f r → Knows b (read_at n (Some f) r k)
-knows-read_at b k n f (reply.Found value cut sv) h made of = knows-snapshot b (learns (met sv) (Some f) k) n (knows-serial b k h f sv of) made
-knows-read_at b k n f (reply.Absent cut sv) h made of = knows-snapshot b (learns (met sv) (Some f) k) n (knows-serial b k h f sv of) made
+knows-read_at : (b : Books) (k : Known) (n f : ℕ) (r : Reply) → Knows b k → IsMade b n → ShowsSerial b f r
+    → Knows b (read_at n (Some f) r k)
+knows-read_at b k n f (reply.Found value cut sv) h made of =
+    knows-snapshot b (learns (met sv) (Some f) k) n (knows-serial b k h f sv of) made
+knows-read_at b k n f (reply.Absent cut sv) h made of =
+    knows-snapshot b (learns (met sv) (Some f) k) n (knows-serial b k h f sv of) made
 knows-read_at b k n f r h made of = h
 
-pub gets-knows : (b : Books) (k : Known) (n : ℕ) (name key : List ℕ) (f : ℕ) (r : Reply) → Knows b k → k.handles name ≡ Some f → IsMade b n
+pub gets-knows : (b : Books) (k : Known) (n : ℕ) (name key : List ℕ) (f : ℕ) (r : Reply) → Knows b k
+    → k.handles name ≡ Some f → IsMade b n
     → ShowsSerial b f r → Knows b (learn k (command.Gets n name key) r)
-gets-knows b k n name key f r knows has made of = of_handle (λ z. Knows b (read_at n z r k)) (k.handles name) f has (knows-read_at b k n f r knows made of)
+gets-knows b k n name key f r knows has made of =
+    of_handle (λ z. Knows b (read_at n z r k)) (k.handles name) f has (knows-read_at b k n f r knows made of)
 
 -- ---- no such snapshot
 

@@ -114,15 +114,18 @@ named zero n e = (3, version (first_file ∷ second ∷ []), refl, record { at =
 named (suc zero) n e = (3, version (first_file ∷ second ∷ []), refl, record { at = 1; is = e })
 named (suc (suc at)) n e = absurd (cc)
 
-each : (f : ℕ) (x : Family) → slice_get books.families f ≡ Some x → CoversFamily books ((known_after (take 6 rows)).families f).reached f (1 ∷ 2 ∷ [])
+each : (f : ℕ) (x : Family) → slice_get books.families f ≡ Some x
+    → CoversFamily books ((known_after (take 6 rows)).families f).reached f (1 ∷ 2 ∷ [])
 each zero x e = of_default
 each (suc f) x e = absurd (cc)
 
 fits-live : ReplyFits alone books (known_after (take 6 rows)) command.Live (reply.Live (1 ∷ 2 ∷ []))
-fits-live = (refl, record { rising = rising; captured = λ n has. (0, omega arith, captured has.at n has.is); named = λ n has. named has.at n has.is; covers = λ f x at stands. each f x at })
+fits-live =
+    (refl, record { rising = rising; captured = λ n has. (0, omega arith, captured has.at n has.is); named = λ n has. named has.at n has.is; covers = λ f x at stands. each f x at })
 
 -- a list that leaves out the files
-no_files : (to : ℕ) (files : List FileMeta) → FilesJoin 0 files to → 2 ≤ to → ((n : ℕ) → In n (numbers_of files) → ⊥) → ⊥
+no_files : (to : ℕ) (files : List FileMeta) → FilesJoin 0 files to → 2 ≤ to → ((n : ℕ) → In n (numbers_of files) → ⊥)
+    → ⊥
 no_files to [] joins far none = absurd (omega (arith, joins, far))
 no_files to (f ∷ files) joins far none = none f.number (record { at = 0; is = refl })
 

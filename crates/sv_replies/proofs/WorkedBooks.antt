@@ -1,7 +1,6 @@
 -- What the books of worked rows are made of.
-use Rattle.std.specs.Prelude.{ℕ, Bool, true, false, List, [], ◌∷◌, Option, Some, None, replicate, codes}
+use Rattle.std.specs.Prelude.{◌≡◌, ℕ, Bool, true, false, List, [], ◌∷◌, Some, None, replicate, codes}
 use Rattle.sv_model.specs.declared.writes.Op.{Op}
-use Rattle.sv_model.specs.declared.writes.Op.TheVariants as op
 use Rattle.sv_model.specs.declared.writes.Write.{Write}
 use Rattle.sv_model.specs.declared.records.SuperVersion.{SuperVersion}
 use Rattle.sv_model.specs.declared.records.Memtable.{Memtable}
@@ -11,7 +10,6 @@ use Rattle.sv_model.specs.declared.records.FileMeta.{FileMeta}
 use Rattle.sv_model.specs.declared.records.Family.{Family}
 use Rattle.sv_model.specs.declared.records.RegisteredFile.{RegisteredFile}
 use Rattle.sv_model.specs.declared.records.FileStatus.{FileStatus}
-use Rattle.sv_model.specs.declared.settings.Options.{Options}
 use Rattle.sv_model.specs.Books.{FileRegister}
 use Rattle.sv_model.specs.Families.{first_options}
 use Rattle.sv_script.specs.Answered.{Answered}
@@ -61,7 +59,8 @@ abbrev pub version : List FileMeta → Version
 version files = record { files = files; live = false }
 
 abbrev pub file : ℕ → ℕ → ℕ → Bool → List ℕ → FileMeta
-file number from to last cuts = record { number = number; from = from; to = to; bottom = record { last = last; cuts = cuts } }
+file number from to last cuts =
+    record { number = number; from = from; to = to; bottom = record { last = last; cuts = cuts } }
 
 abbrev pub number_for : ℕ → ℕ → FileStatus → RegisteredFile
 number_for family number status = record { number = number; status = status; family = Some family }
@@ -71,3 +70,14 @@ numbers all next = record { numbers = all; captured = replicate 16 None; holds =
 
 abbrev pub family : List ℕ → Bool → Family
 family name dropped = record { name = name; options = first_options; dropped = dropped; handles = replicate 32 false }
+
+-- ---- what is not so
+
+pub no_op : (o : Op) → None ≡ Some o → ⊥
+no_op o e = absurd (cc)
+
+pub one_op : (p o : Op) → Some p ≡ Some o → p ≡ o
+one_op p o e = cc
+
+pub has_files : (f : FileMeta) (files : List FileMeta) → f ∷ files ≡ [] → ⊥
+has_files f files e = absurd (cc)

@@ -12,11 +12,11 @@ use Rattle.sv_model.specs.Families.{default_family}
 use Rattle.sv_script.specs.Answered.{Answered}
 use Rattle.sv_script.specs.declared.commands.Command.TheVariants as command
 use Rattle.sv_script.specs.declared.replies.Reply.TheVariants as reply
-use Rattle.sv_replies.specs.Known.{at_first, known_after}
+use Rattle.sv_replies.specs.Known.{known_after}
 use Rattle.sv_replies.specs.Due.{due, refuses, no_handle}
-use Rattle.sv_replies.specs.Standing.{IsNamed, WasDropped}
+use Rattle.sv_replies.specs.Moments.{IsNamed, WasDropped}
 use Rattle.sv_replies.specs.ReplyFits.{ReplyFits}
-use Rattle.sv_replies.proofs.WorkedBooks.{alone, first_of_two, home, cold, one, line, write, super, memtable, list, version, file, family, number_for, numbers}
+use Rattle.sv_replies.proofs.WorkedBooks.{alone, first_of_two, home, cold, one, line, write, super, memtable, list, version, file, family, number_for, numbers, has_files, no_op}
 
 abbrev k : List ℕ
 k = codes "k"
@@ -76,6 +76,7 @@ fits-get = (
     newer = omega arith;
     within = omega arith;
     looks = record { serves = record { family_is = refl; begins = omega arith; ends = omega arith }; found_is = λ told. refl };
+    unread = (super 1 3 4 3 1, refl, record { version = version (file 1 0 1 false [] ∷ []); at = refl; above = λ o e. absurd (no_op o e); alone = λ e. absurd (has_files (file 1 0 1 false []) [] e) });
   },
 )
 
@@ -105,7 +106,8 @@ only_shown id e = ⊎_elim
 fits-no_family : ReplyFits alone books (known_after (take 8 rows)) (command.Get cold k) (reply.Refused refusal.NoFamily)
 fits-no_family = only_shown
 
-other_refusal : ReplyFits alone books (known_after (take 8 rows)) (command.Get cold k) (reply.Refused refusal.Dropped) → ⊥
+other_refusal : ReplyFits alone books (known_after (take 8 rows)) (command.Get cold k) (reply.Refused refusal.Dropped)
+    → ⊥
 other_refusal h = h
 
 read_without : ReplyFits alone books (known_after (take 8 rows)) (command.Get cold k) (reply.Found seven 1 4) → ⊥
@@ -128,5 +130,7 @@ same_family x y e = cc
 made_before : ReplyFits first_of_two books (known_after (take 8 rows)) (command.Create cold) (reply.Create 1) → ⊥
 made_before h = absurd (omega (arith, h.1.newer))
 
-standing : ReplyFits first_of_two (record books { families = default_family ∷ family cold false ∷ [] }) (known_after (take 8 rows)) (command.Open cold) (reply.Refused refusal.NoFamily) → ⊥
-standing h = let w = h 1 refl in absurd (let e : false ≡ true = ap (λ (f : Family). f.dropped) (same_family (family cold false) w.0 w.1) ∙ w.2 in cc)
+standing : ReplyFits first_of_two (record books { families = default_family ∷ family cold false ∷ [] }) (known_after (take 8 rows)) (command.Open cold) (reply.Refused refusal.NoFamily)
+    → ⊥
+standing h =
+    let w = h 1 refl in absurd (let e : false ≡ true = ap (λ (f : Family). f.dropped) (same_family (family cold false) w.0 w.1) ∙ w.2 in cc)

@@ -1,11 +1,15 @@
 -- The laws tried on a put, gets and a flush of one key whose answers are known, and on answers that are wrong.
-use Rattle.std.proofs.Common.{◌≡◌, ℕ, true, false, List, [], ◌∷◌, Some, None, refl, sym, arith, take, inr}
+use Rattle.std.proofs.Common.{◌≡◌, false, List, [], ◌∷◌, Some, None, refl, sym, ap, ◌∙◌, arith, take, inr}
 use Rattle.std.specs.Prelude.{codes, replicate}
 use Rattle.sv_model.specs.declared.writes.Op.TheVariants as op
 use Rattle.sv_model.specs.declared.refusals.Refusal.TheVariants as refusal
 use Rattle.sv_model.specs.declared.records.FileStatus.TheVariants.{Live}
+use Rattle.sv_model.specs.declared.records.SuperVersion.{SuperVersion}
+use Rattle.sv_model.specs.declared.records.Version.{Version}
 use Rattle.sv_model.specs.Books.{Books}
 use Rattle.sv_model.specs.Families.{default_family}
+use Rattle.sv_model.specs.Journal.{value_of}
+use Rattle.sv_model.specs.Registers.{entry}
 use Rattle.sv_model.proofs.Basics.{none_some}
 use Rattle.sv_script.specs.Answered.{Answered}
 use Rattle.sv_script.specs.declared.commands.Command.TheVariants as command
@@ -13,7 +17,7 @@ use Rattle.sv_script.specs.declared.replies.Reply.TheVariants as reply
 use Rattle.sv_replies.specs.Known.{at_first, known_after}
 use Rattle.sv_replies.specs.Due.{due, refuses, no_handle}
 use Rattle.sv_replies.specs.ReplyFits.{ReplyFits}
-use Rattle.sv_replies.proofs.WorkedBooks.{alone, first_of_two, home, a, one, line, write, super, memtable, list, version, file, number_for, numbers}
+use Rattle.sv_replies.proofs.WorkedBooks.{alone, first_of_two, home, a, one, line, write, super, memtable, list, version, file, number_for, numbers, has_files, no_op, one_op}
 
 abbrev rows : List Answered
 rows =
@@ -51,6 +55,7 @@ fits-get = (
     newer = omega arith;
     within = omega arith;
     looks = record { serves = record { family_is = refl; begins = omega arith; ends = omega arith }; found_is = λ told. refl };
+    unread = (super 0 1 1 1 0, refl, record { version = version []; at = refl; above = λ o e. ap value_of (sym (one_op (op.Put one) o e)); alone = λ e. refl });
   },
 )
 
@@ -78,17 +83,35 @@ fits-get_after = (
     newer = omega arith;
     within = omega arith;
     looks = record { serves = record { family_is = refl; begins = omega arith; ends = omega arith }; found_is = λ told. refl };
+    unread = (super 0 2 3 2 1, refl, record { version = version (file 1 0 1 false [] ∷ []); at = refl; above = λ o e. absurd (no_op o e); alone = λ e. absurd (has_files (file 1 0 1 false []) [] e) });
   },
 )
 
 fits-nothing : ReplyFits alone books (known_after (take 5 rows)) (command.Flush home) (reply.Refused refusal.NothingToFlush)
-fits-nothing = inr (file 1 0 1 false [], record { captured = (1, number_for 0 1 Live, refl, record { number_is = refl; family_is = refl }); covers = record { at = 0; is = refl }; reaches = omega arith })
+fits-nothing =
+    inr (file 1 0 1 false [], record { captured = (1, number_for 0 1 Live, refl, record { number_is = refl; family_is = refl }); covers = record { at = 0; is = refl }; reaches = omega arith })
 
 -- ---- what does not fit
+
+one_super : (x y : SuperVersion) → Some x ≡ Some y → x ≡ y
+one_super x y e = cc
+
+one_version : (x y : Version) → Some x ≡ Some y → x ≡ y
+one_version x y e = cc
 
 -- a value that is not there any more or not yet, and a SuperVersion older than the lane was shown
 stale : ReplyFits alone books (known_after (take 1 rows)) (command.Get home a) (reply.Absent 1 1) → ⊥
 stale h = absurd (none_some one (sym (h.1.looks.found_is refl)))
+
+-- a value from a memtable is promised where the directory tells nothing too
+untold : ReplyFits (record { lane = 0; lanes = 1; told = false }) books (known_after (take 1 rows)) (command.Get home a) (reply.Absent 1 1)
+    → ⊥
+untold h =
+    let it = h.1.unread in
+    let same : super 0 1 1 1 0 ≡ it.0 = one_super (super 0 1 1 1 0) it.0 it.1 in
+    let at : entry books.versions 1 ≡ Some it.2.version = ap (λ (s : SuperVersion). entry books.versions s.descriptor.version) same ∙ it.2.at in
+    let none : it.2.version.files ≡ [] = ap (λ (v : Version). v.files) (sym (one_version (version []) it.2.version at)) in
+    absurd (none_some one (sym (it.2.alone none)))
 
 unseen : ReplyFits alone books (known_after (take 1 rows)) (command.Get home a) (reply.Absent 0 1) → ⊥
 unseen h = absurd (omega (arith, h.1.later))

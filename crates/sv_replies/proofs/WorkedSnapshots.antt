@@ -15,7 +15,7 @@ use Rattle.sv_script.specs.declared.replies.Reply.TheVariants as reply
 use Rattle.sv_replies.specs.Known.{FamilyKnown, known_after, nothing_known, saw}
 use Rattle.sv_replies.specs.ReplyFits.{ReplyFits}
 use Rattle.sv_replies.proofs.KnowsLaws.{at-other}
-use Rattle.sv_replies.proofs.WorkedBooks.{alone, first_of_two, home, a, one, line, write, super, memtable, list, version, file, number_for, numbers}
+use Rattle.sv_replies.proofs.WorkedBooks.{alone, first_of_two, home, a, one, line, write, super, memtable, list, version, file, number_for, numbers, has_files, no_op}
 
 abbrev rows : List Answered
 rows =
@@ -69,7 +69,8 @@ covers f = ⊎_elim
     (eqb_tells f 0)
 
 fits-snap : ReplyFits alone books (known_after (take 1 rows)) command.Snap (reply.Snap 1 1)
-fits-snap = (refl, record { new = refl; stands = (ended, refl, refl); within = omega arith; covers = covers; own = refl })
+fits-snap =
+    (refl, record { new = refl; stands = (ended, refl, refl); within = omega arith; covers = covers; own = refl })
 
 -- a place before what the lane had written
 early : ReplyFits alone books (known_after (take 1 rows)) command.Snap (reply.Snap 1 0) → ⊥
@@ -85,6 +86,7 @@ fits-gets = (
     through = (super 0 2 3 2 3, refl, record { family_is = refl; ends = omega arith });
     cut_is = (ended, refl, record { is = refl; within = omega arith });
     found_is = λ told. refl;
+    unread = (super 0 2 3 2 3, refl, record { version = version (flushed ∷ []); at = refl; above = λ o e. absurd (no_op o e); alone = λ e. absurd (has_files flushed [] e) });
   },
 )
 
@@ -97,6 +99,7 @@ fits-gets_after = (
     through = (super 0 2 3 3 3, refl, record { family_is = refl; ends = omega arith });
     cut_is = (ended, refl, record { is = refl; within = omega arith });
     found_is = λ told. refl;
+    unread = (super 0 2 3 3 3, refl, record { version = version (merged ∷ []); at = refl; above = λ o e. absurd (no_op o e); alone = λ e. absurd (has_files merged [] e) });
   },
 )
 
@@ -105,7 +108,8 @@ same_snapshot x y e = cc
 
 -- a read at the journal's end
 at_end : ReplyFits alone books (known_after (take 7 rows)) (command.Gets 1 home a) (reply.Absent 3 4) → ⊥
-at_end h = absurd (let at = h.1.cut_is in let e : 3 ≡ cut_of books.journal 1 0 = at.2.is ∙ ap (λ (x : Snapshot). cut_of books.journal x.at 0) (sym (same_snapshot ended at.0 at.1)) in omega (arith, e))
+at_end h =
+    absurd (let at = h.1.cut_is in let e : 3 ≡ cut_of books.journal 1 0 = at.2.is ∙ ap (λ (x : Snapshot). cut_of books.journal x.at 0) (sym (same_snapshot ended at.0 at.1)) in omega (arith, e))
 
 fits-nothing : ReplyFits alone books (known_after (take 9 rows)) (command.Compact home) (reply.Refused refusal.NothingToCompact)
 fits-nothing = inr (
@@ -123,7 +127,8 @@ fits-no_snapshot : ReplyFits alone books (known_after (take 11 rows)) (command.G
 fits-no_snapshot = record { over = λ shown. (ended, refl, refl); alone = λ one shown. refl }
 
 -- that it is over before the lane ended it, where no other lane is; and a read at it or its end after that
-early_end : ReplyFits alone books (known_after (take 10 rows)) (command.Gets 1 home a) (reply.Refused refusal.NoSnapshot) → ⊥
+early_end : ReplyFits alone books (known_after (take 10 rows)) (command.Gets 1 home a) (reply.Refused refusal.NoSnapshot)
+    → ⊥
 early_end h = absurd (let e = h.alone refl refl in cc)
 
 read_after : ReplyFits first_of_two books (known_after (take 11 rows)) (command.Gets 1 home a) (reply.Found one 1 4) → ⊥

@@ -1,5 +1,5 @@
 -- A write that was accepted: why the reply fits, and what the lane then knows.
-use Rattle.std.proofs.Common.{◌≡◌, ◌≤◌, ◌+◌, ℕ, List, [], ◌∷◌, ◌++◌, length, Option, Some, None, refl, sym, ◌∙◌, ap, subst, arith}
+use Rattle.std.proofs.Common.{◌≡◌, ◌+◌, ℕ, List, [], ◌∷◌, ◌++◌, length, Option, Some, None, sym, ◌∙◌, ap, subst, arith}
 use Rattle.std.specs.Prelude.{IsSomeAnd}
 use Rattle.std.proofs.lemmas.List.{length_push}
 use Rattle.sv_model.specs.declared.writes.Write.{Write}
@@ -22,8 +22,8 @@ use Rattle.sv_replies.specs.PutLaw.{Writes}
 use Rattle.sv_replies.specs.ReplyFits.{ReplyFits}
 use Rattle.sv_replies.specs.Settings.{Setting}
 use Rattle.sv_replies.proofs.KnowsLaws.{knows-later}
-use Rattle.sv_replies.proofs.KnowsMore.{knows-wrote, of_handle}
-use Rattle.sv_replies.proofs.Refusals.{through}
+use Rattle.sv_replies.proofs.LearnLaws.{knows-wrote, of_handle}
+use Rattle.sv_replies.proofs.MetLaws.{through}
 
 module _ (a b : Books) (f : ℕ) (w : Write) (h : IsWritten a b f w) where
   family-is : of_family f b.journal ≡ of_family f a.journal ++ w ∷ []
@@ -34,7 +34,8 @@ module _ (a b : Books) (f : ℕ) (w : Write) (h : IsWritten a b f w) where
   pub count-is : length (of_family f b.journal) ≡ length (of_family f a.journal) + 1
   count-is = ap length family-is ∙ length_push (of_family f a.journal) w
 
-  writes : (s : Setting) (k : Known) (key : List ℕ) (o : Op) (n : ℕ) → Knows a k → IsWrite s.lane key o w → n ≡ length (of_family f b.journal) → Writes s b k key o n f
+  writes : (s : Setting) (k : Known) (key : List ℕ) (o : Op) (n : ℕ) → Knows a k → IsWrite s.lane key o w
+      → n ≡ length (of_family f b.journal) → Writes s b k key o n f
   writes s k key o n knows is number =
       let there : entry (of_family f b.journal) n ≡ Some w = ap (λ z. entry z n) family-is ∙ entry-new (of_family f a.journal) w n (omega (arith, number, count-is)) in
       record {
@@ -43,7 +44,8 @@ module _ (a b : Books) (f : ℕ) (w : Write) (h : IsWritten a b f w) where
       }
 
   pub put-fits : (s : Setting) (k : Known) (name key value : List ℕ) (n : ℕ) → Knows a k → k.handles name ≡ Some f
-      → due k (command.Put name key value) ≡ None → IsWrite s.lane key (op.Put value) w → n ≡ length (of_family f b.journal)
+      → due k (command.Put name key value) ≡ None → IsWrite s.lane key (op.Put value) w
+      → n ≡ length (of_family f b.journal)
       → ReplyFits s b k (command.Put name key value) (reply.Put n)
   put-fits s k name key value n knows has none is number =
       (none, through (k.handles name) f (Writes s b k key (op.Put value) n) has (writes s k key (op.Put value) n knows is number))
@@ -54,7 +56,8 @@ module _ (a b : Books) (f : ℕ) (w : Write) (h : IsWritten a b f w) where
   delete-fits s k name key n knows has none is number =
       (none, through (k.handles name) f (Writes s b k key op.Delete n) has (writes s k key op.Delete n knows is number))
 
-  knows-write : (k : Known) (o : Option ℕ) (n : ℕ) → After a b → Knows a k → o ≡ Some f → n ≡ length (of_family f b.journal) → Knows b (wrote o n k)
+  knows-write : (k : Known) (o : Option ℕ) (n : ℕ) → After a b → Knows a k → o ≡ Some f
+      → n ≡ length (of_family f b.journal) → Knows b (wrote o n k)
   knows-write k o n after knows has number =
       of_handle (λ z. Knows b (wrote z n k)) o f has (knows-wrote b k (knows-later a b k after knows) f n (omega (arith, number)))
 

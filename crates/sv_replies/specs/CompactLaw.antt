@@ -7,7 +7,7 @@ use Rattle.sv_model.specs.Reads.{IsOutput}
 use Rattle.sv_model.specs.Moments.{WasCapturedFor, WereManyLive, WereAllNumbered}
 use Rattle.sv_replies.specs.Known.{Known}
 use Rattle.sv_replies.specs.Settings.{Setting}
-use Rattle.sv_replies.specs.Standing.{WasDropped, WasMerged}
+use Rattle.sv_replies.specs.Moments.{WasDropped, WasMerged}
 use Rattle.sv_replies.specs.FlushLaw.{IsBusy}
 
 -- The file covers the family's writes from the first on, as far as flushes and compactions reached that the lane was

@@ -5,7 +5,7 @@ use Rattle.sv_model.specs.declared.refusals.Refusal.TheVariants as refusal
 use Rattle.sv_model.specs.Books.{Books}
 use Rattle.sv_model.specs.Moments.{WereManyMemtables, WereManyLive, WereAllMade}
 use Rattle.sv_replies.specs.Known.{Known}
-use Rattle.sv_replies.specs.Standing.{IsNamed, IsTaken, WereManyFamilies}
+use Rattle.sv_replies.specs.Moments.{IsNamed, IsTaken, WereManyFamilies}
 
 -- The family has the name, of which the lane had no handle, and its id is above each that the lane made.
 pub record Creates (books : Books) (k : Known) (name : List ℕ) (id : ℕ) : Type 0 where

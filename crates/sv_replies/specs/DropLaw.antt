@@ -3,7 +3,7 @@ use Rattle.std.specs.Prelude.{ℕ}
 use Rattle.sv_model.specs.declared.refusals.Refusal.{Refusal}
 use Rattle.sv_model.specs.declared.refusals.Refusal.TheVariants as refusal
 use Rattle.sv_model.specs.Books.{Books}
-use Rattle.sv_replies.specs.Standing.{WasDropped}
+use Rattle.sv_replies.specs.Moments.{WasDropped}
 
 -- the family is dropped
 abbrev pub Drops : Books → ℕ → Type 0

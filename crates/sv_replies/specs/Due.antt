@@ -1,6 +1,6 @@
 -- Which refusal a command meets whatever the books say: the first that its own words and the lane's earlier replies
 -- make due.
-use Rattle.std.specs.Prelude.{◌≡◌, ◌≤◌, ◌<◌, ◌⊎◌, ℕ, suc, zero, Bool, true, false, not, ◌&&◌, nat_le, nat_lt, ◌==◌, if◌then◌else◌, List, [], ◌∷◌, length, Option, Some, None, is_some, is_none, option_map}
+use Rattle.std.specs.Prelude.{◌≡◌, ◌≤◌, ◌<◌, ℕ, suc, zero, Bool, true, false, not, ◌&&◌, nat_le, nat_lt, ◌==◌, if◌then◌else◌, List, [], ◌∷◌, length, Option, Some, None, is_some, is_none, option_map}
 use Rattle.std.specs.Str.{bytes_eq}
 use Rattle.sv_model.specs.declared.settings.OptionName.{OptionName}
 use Rattle.sv_model.specs.declared.refusals.Refusal.{Refusal}
@@ -10,9 +10,9 @@ use Rattle.sv_model.specs.Families.{default_name, greatest_of}
 use Rattle.sv_model.specs.Refusals.{key_fault, value_fault}
 use Rattle.sv_script.specs.declared.commands.Command.{Command}
 use Rattle.sv_script.specs.declared.commands.Command.TheVariants as command
-use Rattle.sv_replies.specs.Known.{Known, FamilyKnown, Pinned}
+use Rattle.sv_replies.specs.Known.{Known, Pinned}
 use Rattle.sv_replies.specs.Settings.{Setting}
-use Rattle.sv_replies.specs.Standing.{IsTaken, NamedAreDropped}
+use Rattle.sv_replies.specs.Moments.{IsTaken, NamedAreDropped}
 
 -- what makes a refusal due
 pub data Cause : Type 0 where
@@ -42,7 +42,8 @@ default_cause name = cause_where (bytes_eq name default_name) (refuses refusal.I
 
 abbrev pub option_cause : OptionName → ℕ → Option Cause
 option_cause option value =
-    cause_where (not (nat_le 1 value && nat_le value (greatest_of option))) (refuses (refusal.BadOption value 1 (greatest_of option)))
+    cause_where (not (nat_le 1 value && nat_le value (greatest_of option)))
+    (refuses (refusal.BadOption value 1 (greatest_of option)))
 
 abbrev pub open_cause : Known → List ℕ → Option Cause
 open_cause k name = cause_where (is_some (k.handles name)) (refuses refusal.AlreadyOpen)
@@ -89,7 +90,8 @@ first_of (None ∷ causes) = first_of causes
 first_of (Some cause ∷ causes) = Some cause
 
 abbrev pub due : Known → Command → Option Cause
-due k (command.Put family key value) = first_of (key_cause key ∷ value_cause value ∷ handle_cause k family ∷ dropped_cause k family ∷ [])
+due k (command.Put family key value) =
+    first_of (key_cause key ∷ value_cause value ∷ handle_cause k family ∷ dropped_cause k family ∷ [])
 due k (command.Delete family key) = first_of (key_cause key ∷ handle_cause k family ∷ dropped_cause k family ∷ [])
 due k (command.Get family key) = first_of (key_cause key ∷ handle_cause k family ∷ [])
 due k (command.Getp pin key) = first_of (key_cause key ∷ pin_cause k pin ∷ [])
@@ -99,7 +101,8 @@ due k (command.Compact family) = first_of (handle_cause k family ∷ dropped_cau
 due k (command.Open family) = open_cause k family
 due k (command.Release family) = first_of (default_cause family ∷ handle_cause k family ∷ [])
 due k (command.Drop family) = first_of (default_cause family ∷ handle_cause k family ∷ dropped_cause k family ∷ [])
-due k (command.Set family option value) = first_of (option_cause option value ∷ handle_cause k family ∷ dropped_cause k family ∷ [])
+due k (command.Set family option value) =
+    first_of (option_cause option value ∷ handle_cause k family ∷ dropped_cause k family ∷ [])
 due k (command.Pin family) = first_of (handle_cause k family ∷ pins_cause k ∷ [])
 due k (command.Unpin pin) = pin_cause k pin
 due k command.Hold = hold_cause k

@@ -7,7 +7,7 @@ use Rattle.sv_model.specs.Reads.{IsOutput}
 use Rattle.sv_model.specs.Moments.{WasFlushed, WasCapturedFor, WereManyMemtables, WereManyLive, WereAllNumbered}
 use Rattle.sv_replies.specs.Known.{Known}
 use Rattle.sv_replies.specs.Settings.{Setting}
-use Rattle.sv_replies.specs.Standing.{WasDropped}
+use Rattle.sv_replies.specs.Moments.{WasDropped}
 
 -- The file covers at least one write, and all that the lane had seen; its number is above each that the lane was shown.
 -- Something may lie below it.

@@ -9,7 +9,8 @@ use Rattle.sv_model.specs.Journal.{look}
 use Rattle.sv_model.specs.Snapshots.{cut_of}
 use Rattle.sv_replies.specs.Known.{Known}
 use Rattle.sv_replies.specs.Settings.{Setting}
-use Rattle.sv_replies.specs.Standing.{IsIn}
+use Rattle.sv_replies.specs.Unread.{IsFoundUnread}
+use Rattle.sv_replies.specs.Moments.{IsIn}
 use Rattle.sv_replies.specs.GetLaw.{ReadMet}
 use Rattle.sv_replies.specs.SnapLaw.{MayUse, NoSuch}
 
@@ -24,12 +25,14 @@ pub record CutsAt (books : Books) (family cut : ℕ) (x : Snapshot) : Type 0 whe
   pub within : x.at ≤ length books.journal
 
 -- A read at the snapshot's cut, through a SuperVersion no older than the lane was shown.
-pub record GetsAt (s : Setting) (books : Books) (k : Known) (snapshot : ℕ) (key : List ℕ) (found : Option (List ℕ)) (cut serial family : ℕ) : Type 0 where
+pub record GetsAt (s : Setting) (books : Books) (k : Known) (snapshot : ℕ) (key : List ℕ) (found : Option
+    (List ℕ)) (cut serial family : ℕ) : Type 0 where
   pub may : MayUse s k snapshot
   pub newer : (k.families family).serial ≤ serial
   pub through : IsIn (EndsFrom books family cut) books.supers serial
   pub cut_is : IsIn (CutsAt books family cut) books.snapshots snapshot
   pub found_is : s.told ≡ true → look books.journal family cut key ≡ found
+  pub unread : IsFoundUnread books family key found cut serial
 
 -- what a refused read at a snapshot says of the books
 abbrev pub GetsMet : Setting → Books → Known → ℕ → Refusal → ℕ → Type 0

@@ -118,7 +118,8 @@ file_made number k = record k { file = max k.file number }
 abbrev pub has_handle : List ℕ → ℕ → Known → Known
 has_handle name id k = record k {
   handles = with_handle k.handles name (Some id);
-  named = λ other family. if bytes_eq other name then (if family == id then true else k.named other family) else k.named other family;
+  named = λ other family.
+      if bytes_eq other name then (if family == id then true else k.named other family) else k.named other family;
 }
 
 abbrev pub pinned : Option ℕ → ℕ → ℕ → Known → Known
@@ -131,8 +132,10 @@ family_of_pin (Some p) = Some p.family
 
 -- a read at a snapshot that was answered
 abbrev pub read_at : ℕ → Option ℕ → Reply → Known → Known
-read_at snapshot family (reply.Found value cut sv) k = record (learns (met sv) family k) { snapshots = with_at k.snapshots snapshot true }
-read_at snapshot family (reply.Absent cut sv) k = record (learns (met sv) family k) { snapshots = with_at k.snapshots snapshot true }
+read_at snapshot family (reply.Found value cut sv) k =
+    record (learns (met sv) family k) { snapshots = with_at k.snapshots snapshot true }
+read_at snapshot family (reply.Absent cut sv) k =
+    record (learns (met sv) family k) { snapshots = with_at k.snapshots snapshot true }
 read_at snapshot family r k = k
 
 -- what is known after one more command with its reply
@@ -142,14 +145,17 @@ learn k (command.Delete family key) (reply.Delete n) = wrote (k.handles family) 
 learn k (command.Get family key) r = touches (k.handles family) (read (k.handles family) r k)
 learn k (command.Getp pin key) r = read (family_of_pin (k.pins pin)) r k
 learn k (command.Gets snapshot family key) r = read_at snapshot (k.handles family) r k
-learn k (command.Flush family) (reply.Flush number from to) = file_made number (learns (flushed_to to) (k.handles family) k)
-learn k (command.Compact family) (reply.Compact number from to) = file_made number (learns (reached_to to) (k.handles family) k)
+learn k (command.Flush family) (reply.Flush number from to) =
+    file_made number (learns (flushed_to to) (k.handles family) k)
+learn k (command.Compact family) (reply.Compact number from to) =
+    file_made number (learns (reached_to to) (k.handles family) k)
 learn k (command.Create family) (reply.Create id) = record (has_handle family id k) { created = max k.created id }
 learn k (command.Open family) (reply.Open id) = has_handle family id k
 learn k (command.Release family) reply.Release = record k { handles = with_handle k.handles family None }
 learn k (command.Drop family) reply.Drop = learns as_dropped (k.handles family) k
 learn k (command.Set family option value) (reply.Set sv) = learns (met sv) (k.handles family) k
-learn k (command.Pin family) (reply.Pin pin sv) = touches (k.handles family) (pinned (k.handles family) pin sv (learns (met sv) (k.handles family) k))
+learn k (command.Pin family) (reply.Pin pin sv) =
+    touches (k.handles family) (pinned (k.handles family) pin sv (learns (met sv) (k.handles family) k))
 learn k (command.Pin family) r = touches (k.handles family) k
 learn k (command.Unpin pin) reply.Unpin = record k { pins = with_at k.pins pin None }
 learn k command.Hold (reply.Hold count) = record k { holds = count }

@@ -1,5 +1,5 @@
 -- What a lane was told is within books: so it stays in all books that come after.
-use Rattle.std.specs.Prelude.{◌≡◌, ◌≤◌, ◌<◌, ◌⊎◌, ◌↔◌, ℕ, true, false, List, Some, length, slice_get, sum}
+use Rattle.std.specs.Prelude.{◌≡◌, ◌≤◌, ◌<◌, ◌⊎◌, ◌↔◌, ℕ, true, List, Some, length, slice_get, sum}
 use Rattle.sv_model.specs.declared.records.Top.{Top}
 use Rattle.sv_model.specs.declared.records.Snapshot.{Snapshot}
 use Rattle.sv_model.specs.Books.{Books, files_of}
@@ -8,7 +8,7 @@ use Rattle.sv_model.specs.Journal.{of_family, by_lane}
 use Rattle.sv_model.specs.Ranges.{reach_of}
 use Rattle.sv_model.specs.Registers.{entry}
 use Rattle.sv_replies.specs.Known.{Known, FamilyKnown, Pinned}
-use Rattle.sv_replies.specs.Standing.{IsAt, IsIn, IsNamed, IsOf, WasDropped}
+use Rattle.sv_replies.specs.Moments.{IsAt, IsIn, IsNamed, IsOf, WasDropped}
 use Rattle.sv_replies.specs.SnapLaw.{IsOver}
 
 -- the files of the last Version reach this write

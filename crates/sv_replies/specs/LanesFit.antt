@@ -57,12 +57,19 @@ abbrev pub ended_by : Command → Reply → List ℕ
 ended_by (command.Unsnap snapshot) reply.Unsnap = snapshot ∷ []
 ended_by command reply = []
 
--- all numbers that purges and scans showed, and all snapshots that were ended
+-- all numbers that purges and scans showed to a lane, and all snapshots that it ended
+abbrev pub purged_of : List Answered → List ℕ
+purged_of all = flat_map (λ a. purged_by a.reply) all
+
+abbrev pub ended_of : List Answered → List ℕ
+ended_of all = flat_map (λ a. ended_by a.command a.reply) all
+
+-- the same of all lanes
 abbrev pub purged : List (List Answered) → List ℕ
-purged lanes = flat_map (λ all. flat_map (λ a. purged_by a.reply) all) lanes
+purged lanes = flat_map purged_of lanes
 
 abbrev pub ended : List (List Answered) → List ℕ
-ended lanes = flat_map (λ all. flat_map (λ a. ended_by a.command a.reply) all) lanes
+ended lanes = flat_map ended_of lanes
 
 -- the snapshot of which a command was told that there is none
 abbrev pub missing_in : Command → Reply → List ℕ

@@ -25,7 +25,8 @@ pub record CoversFamily (books : Books) (reached family : ℕ) (numbers : List �
   pub joins : FilesJoin 0 files to
   pub far : reached ≤ to
 
--- They ascend, each was captured for a family and is named by a Version ever made, and they cover each family that is not dropped.
+-- They ascend, each was captured for a family and is named by a Version ever made, and they cover each family that
+-- is not dropped.
 pub record Lives (books : Books) (k : Known) (numbers : List ℕ) : Type 0 where
   pub rising : IsStrictlyIncreasing numbers
   pub captured : (n : ℕ) → In n numbers → (f : ℕ) × (f < length books.families) × WasCapturedFor books f n

@@ -4,7 +4,7 @@ use Rattle.sv_model.specs.declared.refusals.Refusal.{Refusal}
 use Rattle.sv_model.specs.declared.refusals.Refusal.TheVariants as refusal
 use Rattle.sv_model.specs.Books.{Books}
 use Rattle.sv_replies.specs.Known.{Known}
-use Rattle.sv_replies.specs.Standing.{IsNamed, NamedAreDropped}
+use Rattle.sv_replies.specs.Moments.{IsNamed, NamedAreDropped}
 
 -- the family has the name
 abbrev pub Opens : Books → List ℕ → ℕ → Type 0

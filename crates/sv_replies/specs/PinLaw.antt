@@ -3,7 +3,7 @@ use Rattle.std.specs.Prelude.{◌≡◌, ◌≤◌, ℕ, Some}
 use Rattle.sv_model.specs.Books.{Books}
 use Rattle.sv_replies.specs.Known.{Known}
 use Rattle.sv_replies.specs.Due.{free_pin}
-use Rattle.sv_replies.specs.Standing.{IsIn, IsOf}
+use Rattle.sv_replies.specs.Moments.{IsIn, IsOf}
 
 -- It is the least free pin. Its SuperVersion is of the family, and no older than the lane was shown.
 pub record Pins (books : Books) (k : Known) (pin serial family : ℕ) : Type 0 where

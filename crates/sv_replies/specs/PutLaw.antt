@@ -8,7 +8,7 @@ use Rattle.sv_model.specs.Reads.{IsWrittenAt}
 use Rattle.sv_model.specs.Moments.{WasStalled, WereManyMemtables, WereManyLive, WereAllMade}
 use Rattle.sv_replies.specs.Known.{Known}
 use Rattle.sv_replies.specs.Settings.{Setting}
-use Rattle.sv_replies.specs.Standing.{WasDropped, WasJournalFull}
+use Rattle.sv_replies.specs.Moments.{WasDropped, WasJournalFull}
 
 -- the write of its number in its family, after all that the lane had seen
 pub record Writes (s : Setting) (books : Books) (k : Known) (key : List ℕ) (op : Op) (n family : ℕ) : Type 0 where

@@ -32,21 +32,32 @@ use Rattle.sv_replies.specs.SnapLaw.{Snaps, SnapMet, Unsnaps, UnsnapMet}
 -- What an answer that is no refusal says of the books. Where no refusal is due, the lane has the handle, the pin or the
 -- hold that the command asks for.
 abbrev pub Shows : Setting → Books → Known → Command → Reply → Type 0
-Shows s books k (command.Put name key value) (reply.Put n) = IsSomeAnd (k.handles name) (Writes s books k key (op.Put value) n)
-Shows s books k (command.Delete name key) (reply.Delete n) = IsSomeAnd (k.handles name) (Writes s books k key op.Delete n)
-Shows s books k (command.Get name key) (reply.Found value cut sv) = IsSomeAnd (k.handles name) (Gets s books k key (Some value) cut sv)
-Shows s books k (command.Get name key) (reply.Absent cut sv) = IsSomeAnd (k.handles name) (Gets s books k key None cut sv)
-Shows s books k (command.Getp pin key) (reply.Found value cut sv) = IsSomeAnd (k.pins pin) (GetsPinned s books k key (Some value) cut sv)
-Shows s books k (command.Getp pin key) (reply.Absent cut sv) = IsSomeAnd (k.pins pin) (GetsPinned s books k key None cut sv)
-Shows s books k (command.Gets snapshot name key) (reply.Found value cut sv) = IsSomeAnd (k.handles name) (GetsAt s books k snapshot key (Some value) cut sv)
-Shows s books k (command.Gets snapshot name key) (reply.Absent cut sv) = IsSomeAnd (k.handles name) (GetsAt s books k snapshot key None cut sv)
-Shows s books k (command.Flush name) (reply.Flush number from to) = IsSomeAnd (k.handles name) (Flushes books k number from to)
-Shows s books k (command.Compact name) (reply.Compact number from to) = IsSomeAnd (k.handles name) (Compacts books k number from to)
+Shows s books k (command.Put name key value) (reply.Put n) =
+    IsSomeAnd (k.handles name) (Writes s books k key (op.Put value) n)
+Shows s books k (command.Delete name key) (reply.Delete n) =
+    IsSomeAnd (k.handles name) (Writes s books k key op.Delete n)
+Shows s books k (command.Get name key) (reply.Found value cut sv) =
+    IsSomeAnd (k.handles name) (Gets s books k key (Some value) cut sv)
+Shows s books k (command.Get name key) (reply.Absent cut sv) =
+    IsSomeAnd (k.handles name) (Gets s books k key None cut sv)
+Shows s books k (command.Getp pin key) (reply.Found value cut sv) =
+    IsSomeAnd (k.pins pin) (GetsPinned s books k key (Some value) cut sv)
+Shows s books k (command.Getp pin key) (reply.Absent cut sv) =
+    IsSomeAnd (k.pins pin) (GetsPinned s books k key None cut sv)
+Shows s books k (command.Gets snapshot name key) (reply.Found value cut sv) =
+    IsSomeAnd (k.handles name) (GetsAt s books k snapshot key (Some value) cut sv)
+Shows s books k (command.Gets snapshot name key) (reply.Absent cut sv) =
+    IsSomeAnd (k.handles name) (GetsAt s books k snapshot key None cut sv)
+Shows s books k (command.Flush name) (reply.Flush number from to) =
+    IsSomeAnd (k.handles name) (Flushes books k number from to)
+Shows s books k (command.Compact name) (reply.Compact number from to) =
+    IsSomeAnd (k.handles name) (Compacts books k number from to)
 Shows s books k (command.Create name) (reply.Create id) = Creates books k name id
 Shows s books k (command.Open name) (reply.Open id) = Opens books name id
 Shows s books k (command.Release name) reply.Release = Unit {0}
 Shows s books k (command.Drop name) reply.Drop = IsSomeAnd (k.handles name) (Drops books)
-Shows s books k (command.Set name option value) (reply.Set sv) = IsSomeAnd (k.handles name) (Sets books k option value sv)
+Shows s books k (command.Set name option value) (reply.Set sv) =
+    IsSomeAnd (k.handles name) (Sets books k option value sv)
 Shows s books k (command.Pin name) (reply.Pin pin sv) = IsSomeAnd (k.handles name) (Pins books k pin sv)
 Shows s books k (command.Unpin pin) reply.Unpin = Unit {0}
 Shows s books k command.Hold (reply.Hold count) = count ≡ k.holds + 1

@@ -9,7 +9,7 @@ use Rattle.sv_model.specs.declared.refusals.Refusal.TheVariants as refusal
 use Rattle.sv_model.specs.Books.{Books}
 use Rattle.sv_model.specs.Moments.{WereManyLive, WereAllMade}
 use Rattle.sv_replies.specs.Known.{Known}
-use Rattle.sv_replies.specs.Standing.{IsIn, WasDropped}
+use Rattle.sv_replies.specs.Moments.{IsIn, WasDropped}
 
 abbrev pub value_of : OptionName → Options → ℕ
 value_of MemtableRows o = o.memtable_rows

@@ -8,7 +8,7 @@ use Rattle.sv_model.specs.Journal.{by_lane}
 use Rattle.sv_model.specs.Snapshots.{cut_of}
 use Rattle.sv_replies.specs.Known.{Known}
 use Rattle.sv_replies.specs.Settings.{Setting}
-use Rattle.sv_replies.specs.Standing.{IsIn, WereAllSnapped, WereManySnapshots}
+use Rattle.sv_replies.specs.Moments.{IsIn, WereAllSnapped, WereManySnapshots}
 
 abbrev pub StandsAt : ℕ → Snapshot → Type 0
 StandsAt at x = x.at ≡ at

@@ -5,4 +5,7 @@
 
 mod laws;
 
-pub use laws::{replies_that_go_on, replies_that_last};
+pub use laws::{
+    actives_that_freeze, replies_of_one_lane, replies_that_begin, replies_that_go_on,
+    replies_that_last,
+};

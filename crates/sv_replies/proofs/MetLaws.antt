@@ -1,5 +1,5 @@
 -- Refused commands: when the reply fits, and that what a moment's books gave is so of all later ones.
-use Rattle.std.proofs.Common.{◌≡◌, ◌≤◌, ◌⊎◌, inl, inr, ⊎_elim, ℕ, true, false, List, length, Option, Some, None, refl, sym, ◌∙◌, subst, arith}
+use Rattle.std.proofs.Common.{◌≡◌, ◌≤◌, inl, inr, ⊎_elim, ℕ, List, length, Option, Some, None, refl, sym, ◌∙◌, subst, arith}
 use Rattle.std.specs.Prelude.{IsSomeAnd}
 use Rattle.sv_model.specs.declared.refusals.Refusal.{Refusal}
 use Rattle.sv_model.specs.declared.refusals.Refusal.TheVariants as refusal
@@ -10,14 +10,14 @@ use Rattle.sv_script.specs.declared.commands.Command.TheVariants as command
 use Rattle.sv_script.specs.declared.replies.Reply.TheVariants as reply
 use Rattle.sv_replies.specs.Known.{Known, Pinned}
 use Rattle.sv_replies.specs.Settings.{Setting}
-use Rattle.sv_replies.specs.Standing.{NamedAreDropped, WasMerged, WereAllSnapped, WereManyFamilies, WereManySnapshots, WasJournalFull}
+use Rattle.sv_replies.specs.Moments.{NamedAreDropped, WasMerged}
 use Rattle.sv_replies.specs.Due.{Cause, ComesOf, NoHandle, due, held, no_handle, refuses}
 use Rattle.sv_replies.specs.PutLaw.{WriteMet}
 use Rattle.sv_replies.specs.GetLaw.{ReadMet}
 use Rattle.sv_replies.specs.GetsLaw.{GetsMet}
 use Rattle.sv_replies.specs.FlushLaw.{FlushMet}
 use Rattle.sv_replies.specs.CompactLaw.{CompactMet}
-use Rattle.sv_replies.specs.CreateLaw.{CreateMet, MetWithout}
+use Rattle.sv_replies.specs.CreateLaw.{CreateMet}
 use Rattle.sv_replies.specs.OpenLaw.{OpenMet}
 use Rattle.sv_replies.specs.DropLaw.{DropMet}
 use Rattle.sv_replies.specs.SetLaw.{SetMet}
@@ -25,7 +25,7 @@ use Rattle.sv_replies.specs.PurgeLaw.{IsKnownNumber, PurgeMet, ScanMet}
 use Rattle.sv_replies.specs.SnapLaw.{NoSuch, SnapMet, UnsnapMet}
 use Rattle.sv_replies.specs.ReplyFits.{MayRunOut, Met, Refused, ReplyFits}
 use Rattle.sv_replies.proofs.KnowsLaws.{over-later}
-use Rattle.sv_replies.proofs.Lasting.{all_made-later, all_numbered-later, captured-later, continues-length, dropped-later, flushed-later, goes_on-length, has-later, many_live-later, many_memtables-later, reaches-later, stalled-later, taken-later}
+use Rattle.sv_replies.proofs.AfterLemmas.{all_made-later, all_numbered-later, captured-later, continues-length, dropped-later, flushed-later, goes_on-length, has-later, many_live-later, many_memtables-later, reaches-later, stalled-later, taken-later}
 
 -- ---- what is so of the item
 
@@ -48,12 +48,15 @@ met_in-memory s b k (command.Unsnap snapshot) met = met
 met_in-memory s b k c met = tt
 
 -- where none is due, one that the books of its moment gave
-pub fits_met : (s : Setting) (b : Books) (k : Known) (c : Command) (e : Refusal) → due k c ≡ None → Met s b k c e → ReplyFits s b k c (reply.Refused e)
+pub fits_met : (s : Setting) (b : Books) (k : Known) (c : Command) (e : Refusal) → due k c ≡ None → Met s b k c e
+    → ReplyFits s b k c (reply.Refused e)
 fits_met s b k c refusal.OutOfMemory none met = met_in-memory s b k c met
 fits_met s b k c e none met = subst (λ d. Refused s b k c e d) (sym none) met
 
 -- the one that is due
-pub fits_due : (s : Setting) (b : Books) (k : Known) (c : Command) (cause : Cause) (e : Refusal) → due k c ≡ Some cause → (e ≡ refusal.OutOfMemory → ⊥) → ComesOf s b k cause e → ReplyFits s b k c (reply.Refused e)
+pub fits_due : (s : Setting) (b : Books) (k : Known) (c : Command) (cause : Cause) (e : Refusal)
+    → due k c ≡ Some cause → (e ≡ refusal.OutOfMemory → ⊥) → ComesOf s b k cause e
+    → ReplyFits s b k c (reply.Refused e)
 fits_due s b k c cause refusal.OutOfMemory is other comes = absurd (other refl)
 fits_due s b k c cause e is other comes = subst (λ d. Refused s b k c e d) (sym is) comes
 
@@ -71,13 +74,15 @@ module _ (s : Setting) (a b : Books) (k : Known) (after : After a b) where
 
   merged-later : (family upto : ℕ) → WasMerged a family upto → WasMerged b family upto
   merged-later family upto (inl none) = inl none
-  merged-later family upto (inr found) = inr (found.0, record { reaches = reaches-later a b family upto found.0 after found.1.reaches; last = found.1.last })
+  merged-later family upto (inr found) =
+      inr (found.0, record { reaches = reaches-later a b family upto found.0 after found.1.reaches; last = found.1.last })
 
   named_dropped-later : (name : List ℕ) → NamedAreDropped a k name → NamedAreDropped b k name
   named_dropped-later name h = λ id is. dropped-later a b id after (h id is)
 
   known_number-later : (n : ℕ) → IsKnownNumber a n → IsKnownNumber b n
-  known_number-later n h = has-later KeepsNumber (λ f. f.number ≡ n) (λ f. f.number ≡ n) (λ x y kept is. kept.number ∙ is) a.files.numbers b.files.numbers after.numbers h
+  known_number-later n h =
+      has-later KeepsNumber (λ f. f.number ≡ n) (λ f. f.number ≡ n) (λ x y kept is. kept.number ∙ is) a.files.numbers b.files.numbers after.numbers h
 
   no_such-later : (n : ℕ) → NoSuch s a k n → NoSuch s b k n
   no_such-later n h = record { over = λ is. over-later a b n after (h.over is); alone = h.alone }
@@ -166,17 +171,26 @@ module _ (s : Setting) (a b : Books) (k : Known) (after : After a b) where
 
   -- of each command
   pub met-later : (c : Command) (e : Refusal) → Met s a k c e → Met s b k c e
-  met-later (command.Put name key value) e met = some_and (WriteMet a k e) (WriteMet b k e) (λ f h. write_met e f h) (k.handles name) met
-  met-later (command.Delete name key) e met = some_and (WriteMet a k e) (WriteMet b k e) (λ f h. write_met e f h) (k.handles name) met
-  met-later (command.Get name key) e met = some_and (ReadMet s a e) (ReadMet s b e) (λ f h. read_met e f h) (k.handles name) met
-  met-later (command.Getp pin key) e met = some_and (λ (p : Pinned). ReadMet s a e p.family) (λ (p : Pinned). ReadMet s b e p.family) (λ p h. read_met e p.family h) (k.pins pin) met
-  met-later (command.Gets n name key) e met = some_and (GetsMet s a k n e) (GetsMet s b k n e) (λ f h. gets_met n e f h) (k.handles name) met
-  met-later (command.Flush name) e met = some_and (FlushMet s a k e) (FlushMet s b k e) (λ f h. flush_met e f h) (k.handles name) met
-  met-later (command.Compact name) e met = some_and (CompactMet s a k e) (CompactMet s b k e) (λ f h. compact_met e f h) (k.handles name) met
+  met-later (command.Put name key value) e met =
+      some_and (WriteMet a k e) (WriteMet b k e) (λ f h. write_met e f h) (k.handles name) met
+  met-later (command.Delete name key) e met =
+      some_and (WriteMet a k e) (WriteMet b k e) (λ f h. write_met e f h) (k.handles name) met
+  met-later (command.Get name key) e met =
+      some_and (ReadMet s a e) (ReadMet s b e) (λ f h. read_met e f h) (k.handles name) met
+  met-later (command.Getp pin key) e met =
+      some_and (λ (p : Pinned). ReadMet s a e p.family) (λ (p : Pinned). ReadMet s b e p.family) (λ p h. read_met e p.family h) (k.pins pin) met
+  met-later (command.Gets n name key) e met =
+      some_and (GetsMet s a k n e) (GetsMet s b k n e) (λ f h. gets_met n e f h) (k.handles name) met
+  met-later (command.Flush name) e met =
+      some_and (FlushMet s a k e) (FlushMet s b k e) (λ f h. flush_met e f h) (k.handles name) met
+  met-later (command.Compact name) e met =
+      some_and (CompactMet s a k e) (CompactMet s b k e) (λ f h. compact_met e f h) (k.handles name) met
   met-later (command.Create name) e met = create_met name e met
   met-later (command.Open name) e met = open_met name e met
-  met-later (command.Drop name) e met = some_and (DropMet a e) (DropMet b e) (λ f h. drop_met e f h) (k.handles name) met
-  met-later (command.Set name option value) e met = some_and (SetMet a e) (SetMet b e) (λ f h. set_met e f h) (k.handles name) met
+  met-later (command.Drop name) e met =
+      some_and (DropMet a e) (DropMet b e) (λ f h. drop_met e f h) (k.handles name) met
+  met-later (command.Set name option value) e met =
+      some_and (SetMet a e) (SetMet b e) (λ f h. set_met e f h) (k.handles name) met
   met-later command.Purge e met = purge_met e met
   met-later command.Scan e met = scan_met e met
   met-later command.Snap e met = snap_met e met
@@ -198,6 +212,7 @@ module _ (s : Setting) (a b : Books) (k : Known) (after : After a b) where
   refused-later c e None h = met-later c e h
 
   -- a refusal fits all later books
-  pub refusal-later : (c : Command) (e : Refusal) → ReplyFits s a k c (reply.Refused e) → ReplyFits s b k c (reply.Refused e)
+  pub refusal-later : (c : Command) (e : Refusal) → ReplyFits s a k c (reply.Refused e)
+      → ReplyFits s b k c (reply.Refused e)
   refusal-later c refusal.OutOfMemory h = h
   refusal-later c e h = refused-later c e (due k c) h

@@ -1,40 +1,35 @@
 -- A reply that fits books fits all sound books that come after them.
-use Rattle.std.proofs.Common.{◌≡◌, ◌≤◌, ◌<◌, ◌+◌, ◌==◌, ◌⊎◌, inl, inr, ⊎_elim, ℕ, suc, Bool, true, false, List, [], ◌∷◌, ◌++◌, length, take, Option, Some, None, refl, sym, ◌∙◌, ap, subst, arith}
-use Rattle.std.specs.Prelude.{slice_get, IsSomeAnd}
-use Rattle.std.proofs.lemmas.List.{take-append-le, take-append-drop}
+use Rattle.std.proofs.Common.{◌≡◌, ◌≤◌, ◌+◌, inl, inr, ⊎_elim, ℕ, List, length, take, drop, Option, Some, None, sym, ◌∙◌, ap, subst, arith}
+use Rattle.std.proofs.lemmas.List.{take-append-le}
 use Rattle.sv_model.specs.declared.writes.Write.{Write}
 use Rattle.sv_model.specs.declared.writes.Op.{Op}
 use Rattle.sv_model.specs.declared.writes.Op.TheVariants as op
 use Rattle.sv_model.specs.declared.records.Descriptor.{Descriptor}
-use Rattle.sv_model.specs.declared.records.Family.{Family}
+use Rattle.sv_model.specs.declared.records.FileMeta.{FileMeta}
 use Rattle.sv_model.specs.declared.records.FileStatus.TheVariants.{Gone}
 use Rattle.sv_model.specs.declared.records.RegisteredFile.{RegisteredFile}
 use Rattle.sv_model.specs.declared.records.SuperVersion.{SuperVersion}
-use Rattle.sv_model.specs.declared.records.Top.{Top}
 use Rattle.sv_model.specs.declared.settings.OptionName.{OptionName}
-use Rattle.sv_model.specs.declared.refusals.Refusal.TheVariants as refusal
-use Rattle.sv_model.specs.After.{After, KeepsList, KeepsNumber, KeepsSnapshot, KeepsSuper, KeepsVersion}
+use Rattle.sv_model.specs.After.{After, KeepsList, KeepsNumber, KeepsSnapshot, KeepsSuper}
 use Rattle.sv_model.specs.Books.{Books, end_of}
-use Rattle.sv_model.specs.Journal.{borne_by, by_lane, of_family}
+use Rattle.sv_model.specs.Journal.{borne_by, by_lane, newest_op, of_family, rows_of}
 use Rattle.sv_model.specs.Lawful.{Lawful}
 use Rattle.sv_model.specs.Lists.{In}
-use Rattle.sv_model.specs.Moments.{WasCapturedFor}
-use Rattle.sv_model.specs.Named.{numbers_of}
 use Rattle.sv_model.specs.Numbers.{HasStatus}
+use Rattle.sv_model.specs.Ranges.{reach_of}
 use Rattle.sv_model.specs.Registers.{entry, Has}
 use Rattle.sv_model.specs.Snapshots.{cut_of}
 use Rattle.sv_laws.proofs.CutLaws.{cut-ascend, cut-now}
-use Rattle.sv_laws.proofs.Growing.{get-some, get_within}
-use Rattle.sv_laws.proofs.Items.{in-none, some}
 use Rattle.sv_laws.proofs.SnapshotLaws.{cut-stays}
 use Rattle.sv_script.specs.declared.commands.Command.{Command}
 use Rattle.sv_script.specs.declared.commands.Command.TheVariants as command
 use Rattle.sv_script.specs.declared.replies.Reply.{Reply}
 use Rattle.sv_script.specs.declared.replies.Reply.TheVariants as reply
 use Rattle.sv_replies.specs.Known.{Known, Pinned}
-use Rattle.sv_replies.specs.Knows.{Knows, LastReaches}
+use Rattle.sv_replies.specs.Knows.{Knows}
 use Rattle.sv_replies.specs.Settings.{Setting}
-use Rattle.sv_replies.specs.Standing.{IsAt, IsIn}
+use Rattle.sv_replies.specs.Moments.{IsIn}
+use Rattle.sv_replies.specs.Unread.{FindsUnread, IsFoundUnread, newest_unread}
 use Rattle.sv_replies.specs.PutLaw.{Writes}
 use Rattle.sv_replies.specs.GetLaw.{Gets}
 use Rattle.sv_replies.specs.GetpLaw.{EndsAt, GetsPinned}
@@ -42,16 +37,15 @@ use Rattle.sv_replies.specs.GetsLaw.{CutsAt, EndsFrom, GetsAt}
 use Rattle.sv_replies.specs.FlushLaw.{Flushes}
 use Rattle.sv_replies.specs.CompactLaw.{Compacts}
 use Rattle.sv_replies.specs.CreateLaw.{Creates}
-use Rattle.sv_replies.specs.DropLaw.{Drops}
 use Rattle.sv_replies.specs.SetLaw.{HasOption, Sets, value_of}
 use Rattle.sv_replies.specs.PinLaw.{Pins}
-use Rattle.sv_replies.specs.LiveLaw.{CoversFamily, IsListedFor, Lives}
 use Rattle.sv_replies.specs.PurgeLaw.{Purges}
 use Rattle.sv_replies.specs.SnapLaw.{Snaps, StandsAt, Unsnaps}
 use Rattle.sv_replies.specs.ReplyFits.{ReplyFits, Shows}
 use Rattle.sv_replies.proofs.KnowsLaws.{over-later}
-use Rattle.sv_replies.proofs.Lasting.{captured-later, continues-length, count-later, dropped-later, end-later, goes_on-length, has-later, in-later, in-register, looks-later, look-later, named-later, of-later, one_family, output-later, written-later}
-use Rattle.sv_replies.proofs.Refusals.{refusal-later, some_and}
+use Rattle.sv_replies.proofs.AfterLemmas.{continues-length, count-later, dropped-later, end-later, has-later, in-register, looks-later, look-later, named-later, of_family-later, of-later, output-later, written-later}
+use Rattle.sv_replies.proofs.MetLaws.{refusal-later, some_and}
+use Rattle.sv_replies.proofs.LivesLaws.{lives-later}
 
 module _ (s : Setting) (a b : Books) (k : Known) (knows : Knows a k) (law : Lawful a) (still : Lawful b) (after : After a b) where
   grows : (f : ℕ) → length (of_family f a.journal) ≤ length (of_family f b.journal)
@@ -62,12 +56,37 @@ module _ (s : Setting) (a b : Books) (k : Known) (knows : Knows a k) (law : Lawf
   writes : (key : List ℕ) (op : Op) (n f : ℕ) → Writes s a k key op n f → Writes s b k key op n f
   writes key op n f h = record { later = h.later; written = written-later a b s.lane f key op n after h.written }
 
-  gets : (key : List ℕ) (found : Option (List ℕ)) (cut sv f : ℕ) → Gets s a k key found cut sv f → Gets s b k key found cut sv f
+  -- what is found without a file
+  unread_keeps : (f : ℕ) (key : List ℕ) (found : Option (List ℕ)) (cut : ℕ) → cut ≤ length (of_family f a.journal)
+      → (x y : SuperVersion) → KeepsSuper x y
+      → FindsUnread a f key found cut x → FindsUnread b f key found cut y
+  unread_keeps f key found cut few x y kept h =
+      let v = after.versions x.descriptor.version h.version h.at in
+      let whole : take cut (of_family f b.journal) ≡ take cut (of_family f a.journal) =
+      ap (take cut) (of_family-later a.journal b.journal f after.journal) ∙ take-append-le cut (of_family f a.journal) (of_family f after.journal.0) few in
+      let same : newest_unread b f key cut v.0 ≡ newest_unread a f key cut h.version =
+      ap (λ (z : List FileMeta). newest_op key (rows_of (drop (reach_of z) (take cut (of_family f b.journal))))) v.2.files
+      ∙ ap (λ (z : List Write). newest_op key (rows_of (drop (reach_of h.version.files) z))) whole in
+      record {
+        version = v.0;
+        at = ap (λ (d : Descriptor). entry b.versions d.version) kept.descriptor ∙ v.1;
+        above = λ o e. h.above o (sym same ∙ e);
+        alone = λ none. look-later a.journal b.journal f cut key after.journal few ∙ h.alone (sym v.2.files ∙ none);
+      }
+
+  unread : (f : ℕ) (key : List ℕ) (found : Option (List ℕ)) (cut sv : ℕ) → cut ≤ length (of_family f a.journal)
+      → IsFoundUnread a f key found cut sv → IsFoundUnread b f key found cut sv
+  unread f key found cut sv few h =
+      in-register KeepsSuper (FindsUnread a f key found cut) (FindsUnread b f key found cut) (unread_keeps f key found cut few) a.supers b.supers sv after.supers h
+
+  gets : (key : List ℕ) (found : Option (List ℕ)) (cut sv f : ℕ) → Gets s a k key found cut sv f
+      → Gets s b k key found cut sv f
   gets key found cut sv f h = record {
     later = h.later;
     newer = h.newer;
     within = omega (arith, h.within, grows f);
     looks = looks-later s.told a b f key found cut sv after h.within h.looks;
+    unread = unread f key found cut sv h.within h.unread;
   }
 
   -- where a SuperVersion ends whose active memtable is frozen
@@ -78,17 +97,20 @@ module _ (s : Setting) (a b : Books) (k : Known) (knows : Knows a k) (law : Lawf
       let ends : end_of b.journal y ≡ x.descriptor.base + length (borne_by x.descriptor.active b.journal) = ap (λ (d : Descriptor). d.base + length (borne_by d.active b.journal)) kept.descriptor in
       record {
         end = h.end ∙ ap (λ (z : List Write). x.descriptor.base + length z) (sym rows) ∙ sym ends;
-        frozen = subst (λ m. Has (λ z. In m z.members) b.lists) (sym (ap (λ (d : Descriptor). d.active) kept.descriptor))
+        frozen =
+            subst (λ m. Has (λ z. In m z.members) b.lists) (sym (ap (λ (d : Descriptor). d.active) kept.descriptor))
             (has-later KeepsList (λ z. In x.descriptor.active z.members) (λ z. In x.descriptor.active z.members)
             (λ p q keeps it. subst (λ (ms : List ℕ). In x.descriptor.active ms) (sym keeps.members) it) a.lists b.lists after.lists l);
       }
 
-  gets_pinned : (key : List ℕ) (found : Option (List ℕ)) (cut sv : ℕ) (p : Pinned) → GetsPinned s a k key found cut sv p → GetsPinned s b k key found cut sv p
+  gets_pinned : (key : List ℕ) (found : Option (List ℕ)) (cut sv : ℕ) (p : Pinned)
+      → GetsPinned s a k key found cut sv p → GetsPinned s b k key found cut sv p
   gets_pinned key found cut sv p h = record {
     serial_is = h.serial_is;
     later = ⊎_elim (λ far. inl far) (λ at. inr (in-register KeepsSuper (EndsAt a cut) (EndsAt b cut) (ends_keeps cut) a.supers b.supers sv after.supers at)) h.later;
     within = omega (arith, h.within, grows p.family);
     looks = looks-later s.told a b p.family key found cut sv after h.within h.looks;
+    unread = unread p.family key found cut sv h.within h.unread;
   }
 
   through_keeps : (f cut : ℕ) (x y : SuperVersion) → KeepsSuper x y → EndsFrom a f cut x → EndsFrom b f cut y
@@ -105,24 +127,29 @@ module _ (s : Setting) (a b : Books) (k : Known) (knows : Knows a k) (law : Lawf
 
   -- a cut is within the family's writes
   cut_within : (f cut n : ℕ) → IsIn (CutsAt a f cut) a.snapshots n → cut ≤ length (of_family f a.journal)
-  cut_within f cut n h = omega (arith, h.2.is, cut-ascend a.journal f h.0.at (length a.journal) h.2.within, cut-now a.journal f)
+  cut_within f cut n h =
+      omega (arith, h.2.is, cut-ascend a.journal f h.0.at (length a.journal) h.2.within, cut-now a.journal f)
 
-  gets_at : (n : ℕ) (key : List ℕ) (found : Option (List ℕ)) (cut sv f : ℕ) → GetsAt s a k n key found cut sv f → GetsAt s b k n key found cut sv f
+  gets_at : (n : ℕ) (key : List ℕ) (found : Option (List ℕ)) (cut sv f : ℕ) → GetsAt s a k n key found cut sv f
+      → GetsAt s b k n key found cut sv f
   gets_at n key found cut sv f h = record {
     may = h.may;
     newer = h.newer;
     through = in-register KeepsSuper (EndsFrom a f cut) (EndsFrom b f cut) (through_keeps f cut) a.supers b.supers sv after.supers h.through;
     cut_is = in-register KeepsSnapshot (CutsAt a f cut) (CutsAt b f cut) (cut_keeps f cut) a.snapshots b.snapshots n after.snapshots h.cut_is;
     found_is = λ is. look-later a.journal b.journal f cut key after.journal (cut_within f cut n h.cut_is) ∙ h.found_is is;
+    unread = unread f key found cut sv (cut_within f cut n h.cut_is) h.unread;
   }
 
   -- ---- files
 
   flushes : (number from to f : ℕ) → Flushes a k number from to f → Flushes b k number from to f
-  flushes number from to f h = record { range = h.range; later = h.later; newer = h.newer; cuts = h.cuts; output = output-later a b f _ after h.output }
+  flushes number from to f h =
+      record { range = h.range; later = h.later; newer = h.newer; cuts = h.cuts; output = output-later a b f _ after h.output }
 
   compacts : (number from to f : ℕ) → Compacts a k number from to f → Compacts b k number from to f
-  compacts number from to f h = record { whole = h.whole; some = h.some; far = h.far; newer = h.newer; cuts = h.cuts; output = output-later a b f _ after h.output }
+  compacts number from to f h =
+      record { whole = h.whole; some = h.some; far = h.far; newer = h.newer; cuts = h.cuts; output = output-later a b f _ after h.output }
 
   gone_keeps : (n : ℕ) (x y : RegisteredFile) → KeepsNumber x y → HasStatus n Gone x → HasStatus n Gone y
   gone_keeps n x y kept h = record { number_is = kept.number ∙ h.number_is; status_is = kept.gone h.status_is }
@@ -133,85 +160,13 @@ module _ (s : Setting) (a b : Books) (k : Known) (knows : Knows a k) (law : Lawf
     gone = λ n has. has-later KeepsNumber (HasStatus n Gone) (HasStatus n Gone) (gone_keeps n) a.files.numbers b.files.numbers after.numbers (h.gone n has);
   }
 
-  back : (numbers : List ℕ) → Lives a k numbers → (f n : ℕ) → IsListedFor b numbers f n → WasCapturedFor a f n
-  back numbers h f n l =
-      let c = h.captured n l.listed in
-      subst (λ g. WasCapturedFor a g n) (one_family b still.numbers.once n c.0 f (captured-later a b c.0 n after c.2) l.captured) c.2
-
-  covers-old : (numbers : List ℕ) → Lives a k numbers → (f : ℕ) → CoversFamily a (k.families f).reached f numbers → CoversFamily b (k.families f).reached f numbers
-  covers-old numbers h f c = record {
-    files = c.files;
-    exact = λ n. (
-      λ has. let l = (c.exact n).0 has in record { listed = l.listed; captured = captured-later a b f n after l.captured },
-      λ l. (c.exact n).1 (record { listed = l.listed; captured = back numbers h f n l }),
-    );
-    covers = λ file has. in-later file a.metas b.metas after.metas (c.covers file has);
-    to = c.to;
-    joins = c.joins;
-    far = c.far;
-  }
-
-  -- of a family that was made since nothing is listed and nothing is known
-  none_at : (o : Option Family) (x : Family) → o ≡ None → o ≡ Some x → ⊥
-  none_at o x none is = absurd (let e : None ≡ Some x = sym none ∙ is in cc)
-
-  unknown : (f : ℕ) → slice_get a.families f ≡ None → (k.families f).reached ≡ 0
-  unknown f none = ⊎_elim
-      (λ is. is)
-      (λ at. absurd (let y = get-some a.families f (omega (arith, get_within a.tops f at.0 at.1, law.paired)) in none_at (slice_get a.families f) y.0 none y.1))
-      (knows.families f).reached
-
-  covers-new : (numbers : List ℕ) → Lives a k numbers → (f : ℕ) → slice_get a.families f ≡ None → CoversFamily b (k.families f).reached f numbers
-  covers-new numbers h f none = record {
-    files = [];
-    exact = λ n. (
-      λ has. absurd (in-none n has),
-      λ l.
-          let c = h.captured n l.listed in
-          let same = one_family b still.numbers.once n c.0 f (captured-later a b c.0 n after c.2) l.captured in
-          let y = get-some a.families f (omega (arith, c.1, same)) in
-          absurd (none_at (slice_get a.families f) y.0 none y.1),
-    );
-    covers = λ file has. absurd (in-none file has);
-    to = 0;
-    joins = refl;
-    far = omega (arith, unknown f none);
-  }
-
-  stood : (o x : Family) → (o.dropped ≡ true → x.dropped ≡ true) → x.dropped ≡ false → o.dropped ≡ false
-  stood o x keeps stands = by o.dropped refl
-    where
-      by : (d : Bool) → o.dropped ≡ d → o.dropped ≡ false
-      by true is = absurd (let e : true ≡ false = sym (keeps is) ∙ stands in cc)
-      by false is = is
-
-  covers : (numbers : List ℕ) → Lives a k numbers → (f : ℕ) (x : Family) → slice_get b.families f ≡ Some x → x.dropped ≡ false → CoversFamily b (k.families f).reached f numbers
-  covers numbers h f x at stands = by (slice_get a.families f) refl
-    where
-      by : (o : Option Family) → slice_get a.families f ≡ o → CoversFamily b (k.families f).reached f numbers
-      by None is = covers-new numbers h f is
-      by (Some o) is =
-          let kept = after.families (suc f) o is in
-          let same : kept.0 ≡ x = some (sym kept.1 ∙ at) in
-          covers-old numbers h f (h.covers f o is (stood o kept.0 kept.2.dropped (ap (λ (y : Family). y.dropped) same ∙ stands)))
-
-  lives : (numbers : List ℕ) → Lives a k numbers → Lives b k numbers
-  lives numbers h = record {
-    rising = h.rising;
-    captured = λ n has.
-        let c = h.captured n has in
-        (c.0, omega (arith, c.1, goes_on-length _ a.families b.families after.families), captured-later a b c.0 n after c.2);
-    named = λ n has. has-later KeepsVersion (λ v. In n (numbers_of v.files)) (λ v. In n (numbers_of v.files))
-        (λ x y kept it. subst (λ z. In n (numbers_of z)) (sym kept.files) it) a.versions b.versions after.versions (h.named n has);
-    covers = covers numbers h;
-  }
-
   -- ---- families
 
   creates : (name : List ℕ) (id : ℕ) → Creates a k name id → Creates b k name id
   creates name id h = record { free = h.free; newer = h.newer; named = named-later a b id name after h.named }
 
-  option_keeps : (f : ℕ) (option : OptionName) (value : ℕ) (x y : SuperVersion) → KeepsSuper x y → HasOption f option value x → HasOption f option value y
+  option_keeps : (f : ℕ) (option : OptionName) (value : ℕ) (x y : SuperVersion) → KeepsSuper x y
+      → HasOption f option value x → HasOption f option value y
   option_keeps f option value x y kept h = record {
     family_is = ap (λ (d : Descriptor). d.family) kept.descriptor ∙ h.family_is;
     value_is = ap (λ (d : Descriptor). value_of option d.options) kept.descriptor ∙ h.value_is;
@@ -243,16 +198,23 @@ module _ (s : Setting) (a b : Books) (k : Known) (knows : Knows a k) (law : Lawf
   -- ---- each answer
 
   pub shows-later : (c : Command) (r : Reply) → Shows s a k c r → Shows s b k c r
-  shows-later (command.Put name key value) (reply.Put n) h = some_and _ _ (writes key (op.Put value) n) (k.handles name) h
+  shows-later (command.Put name key value) (reply.Put n) h =
+      some_and _ _ (writes key (op.Put value) n) (k.handles name) h
   shows-later (command.Delete name key) (reply.Delete n) h = some_and _ _ (writes key op.Delete n) (k.handles name) h
-  shows-later (command.Get name key) (reply.Found value cut sv) h = some_and _ _ (gets key (Some value) cut sv) (k.handles name) h
+  shows-later (command.Get name key) (reply.Found value cut sv) h =
+      some_and _ _ (gets key (Some value) cut sv) (k.handles name) h
   shows-later (command.Get name key) (reply.Absent cut sv) h = some_and _ _ (gets key None cut sv) (k.handles name) h
-  shows-later (command.Getp pin key) (reply.Found value cut sv) h = some_and _ _ (gets_pinned key (Some value) cut sv) (k.pins pin) h
+  shows-later (command.Getp pin key) (reply.Found value cut sv) h =
+      some_and _ _ (gets_pinned key (Some value) cut sv) (k.pins pin) h
   shows-later (command.Getp pin key) (reply.Absent cut sv) h = some_and _ _ (gets_pinned key None cut sv) (k.pins pin) h
-  shows-later (command.Gets n name key) (reply.Found value cut sv) h = some_and _ _ (gets_at n key (Some value) cut sv) (k.handles name) h
-  shows-later (command.Gets n name key) (reply.Absent cut sv) h = some_and _ _ (gets_at n key None cut sv) (k.handles name) h
-  shows-later (command.Flush name) (reply.Flush number from to) h = some_and _ _ (flushes number from to) (k.handles name) h
-  shows-later (command.Compact name) (reply.Compact number from to) h = some_and _ _ (compacts number from to) (k.handles name) h
+  shows-later (command.Gets n name key) (reply.Found value cut sv) h =
+      some_and _ _ (gets_at n key (Some value) cut sv) (k.handles name) h
+  shows-later (command.Gets n name key) (reply.Absent cut sv) h =
+      some_and _ _ (gets_at n key None cut sv) (k.handles name) h
+  shows-later (command.Flush name) (reply.Flush number from to) h =
+      some_and _ _ (flushes number from to) (k.handles name) h
+  shows-later (command.Compact name) (reply.Compact number from to) h =
+      some_and _ _ (compacts number from to) (k.handles name) h
   shows-later (command.Create name) (reply.Create id) h = creates name id h
   shows-later (command.Open name) (reply.Open id) h = named-later a b id name after h
   shows-later (command.Release name) reply.Release h = tt
@@ -262,7 +224,7 @@ module _ (s : Setting) (a b : Books) (k : Known) (knows : Knows a k) (law : Lawf
   shows-later (command.Unpin pin) reply.Unpin h = tt
   shows-later command.Hold (reply.Hold count) h = h
   shows-later command.Unhold (reply.Unhold count) h = h
-  shows-later command.Live (reply.Live numbers) h = lives numbers h
+  shows-later command.Live (reply.Live numbers) h = lives-later a b k knows law still after numbers h
   shows-later command.Purge (reply.Purge numbers) h = purges numbers h
   shows-later command.Scan (reply.Scan numbers) h = purges numbers h
   shows-later command.Rest (reply.Rest count) h = h

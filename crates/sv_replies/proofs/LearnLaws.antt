@@ -7,7 +7,7 @@ use Rattle.sv_script.specs.declared.replies.Reply.{Reply}
 use Rattle.sv_script.specs.declared.replies.Reply.TheVariants as reply
 use Rattle.sv_replies.specs.Known.{Known, file_made, flushed_to, learns, met, reached_to, read, saw, touches, wrote}
 use Rattle.sv_replies.specs.Knows.{Knows, LastReaches}
-use Rattle.sv_replies.specs.Standing.{IsAt, IsIn, IsOf}
+use Rattle.sv_replies.specs.Moments.{IsAt, IsIn, IsOf}
 use Rattle.sv_replies.proofs.KnowsLaws.{knows-flushed, knows-learns, knows-met, knows-reached, knows-saw}
 
 -- counts that the books are not asked for
@@ -60,8 +60,10 @@ ReadShows b f (reply.Found value cut sv) = ReadsWithin b f cut sv
 ReadShows b f (reply.Absent cut sv) = ReadsWithin b f cut sv
 ReadShows b f r = Unit {0}
 
-knows-both : (b : Books) (k : Known) (f cut sv : ℕ) → Knows b k → ReadsWithin b f cut sv → Knows b (learns (met sv) (Some f) (learns (saw cut) (Some f) k))
-knows-both b k f cut sv h shown = knows-serial b (learns (saw cut) (Some f) k) (knows-cut b k h f cut shown.within) f sv shown.of
+knows-both : (b : Books) (k : Known) (f cut sv : ℕ) → Knows b k → ReadsWithin b f cut sv
+    → Knows b (learns (met sv) (Some f) (learns (saw cut) (Some f) k))
+knows-both b k f cut sv h shown =
+    knows-serial b (learns (saw cut) (Some f) k) (knows-cut b k h f cut shown.within) f sv shown.of
 
 pub knows-read : (b : Books) (k : Known) (f : ℕ) (r : Reply) → Knows b k → ReadShows b f r → Knows b (read (Some f) r k)
 knows-read b k f (reply.Found value cut sv) h shown = knows-both b k f cut sv h shown
