@@ -57,6 +57,14 @@ pin_and_key (a ∷ b ∷ []) = do
   Ok (pin, key)
 pin_and_key _ = Err kinds.Count
 
+unfoldable pub gets_of : Words → Result Command BadKind
+gets_of (a ∷ b ∷ c ∷ []) = do
+  snapshot ← number a
+  family ← name b
+  key ← item c
+  Ok (commands.Gets snapshot family key)
+gets_of _ = Err kinds.Count
+
 unfoldable pub set_of : Words → Result Command BadKind
 set_of (a ∷ b ∷ c ∷ []) = do
   family ← name a
@@ -98,6 +106,9 @@ of_verb verbs.Live words = alone commands.Live words
 of_verb verbs.Purge words = alone commands.Purge words
 of_verb verbs.Scan words = alone commands.Scan words
 of_verb verbs.Rest words = alone commands.Rest words
+of_verb verbs.Snap words = alone commands.Snap words
+of_verb verbs.Gets words = gets_of words
+of_verb verbs.Unsnap words = number_alone words >>= λ n. Ok (commands.Unsnap n)
 
 -- the words that name commands
 abbrev pub verbs_by_word : List (List ℕ × Verb)
@@ -121,6 +132,9 @@ verbs_by_word =
     ∷ (codes "purge", verbs.Purge)
     ∷ (codes "scan", verbs.Scan)
     ∷ (codes "rest", verbs.Rest)
+    ∷ (codes "snap", verbs.Snap)
+    ∷ (codes "gets", verbs.Gets)
+    ∷ (codes "unsnap", verbs.Unsnap)
     ∷ []
 
 -- what stands beside the word in the table

@@ -36,6 +36,8 @@ answer_text (reply.Live numbers) = codes "ok live" ++ listed numbers
 answer_text (reply.Purge numbers) = codes "ok purge" ++ listed numbers
 answer_text (reply.Scan numbers) = codes "ok scan" ++ listed numbers
 answer_text (reply.Rest count) = numbered (codes "ok rest ") count
+answer_text (reply.Snap snapshot at) = numbered (codes "ok snap ") snapshot ++ numbered (codes " at ") at
+answer_text reply.Unsnap = codes "ok unsnap"
 answer_text (reply.Refused refusal) = refusal_text refusal
 
 -- the line: its number, one space, the reply

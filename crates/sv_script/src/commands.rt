@@ -43,4 +43,12 @@ pub enum Command {
     Purge,
     Scan,
     Rest,
+    Snap,
+    /// A get at a snapshot, which any lane may have taken.
+    Gets {
+        snapshot: u64,
+        family: Name,
+        key: Items<u8>,
+    },
+    Unsnap(u64),
 }

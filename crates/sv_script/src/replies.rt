@@ -55,6 +55,12 @@ pub enum Reply {
     Scan(Items<FileNumber>),
     /// How many cached references were dropped.
     Rest(u32),
+    /// The snapshot reads what the first `at` writes of the journal leave.
+    Snap {
+        snapshot: u32,
+        at: u64,
+    },
+    Unsnap,
     Refused(Refusal),
 }
 

@@ -73,7 +73,8 @@ fn names_what_a_line_has_wrong(rt: HostRuntime) {
         (b"1", BadKind::Command),
         (b"32", BadKind::Command),
         (b"1 Put cold a 1", BadKind::Command),
-        (b"1 snap", BadKind::Command),
+        (b"1 snaps", BadKind::Command),
+        (b"1 iter 0", BadKind::Command),
         (b"1 views cold", BadKind::Command),
         (b"1 phase", BadKind::Command),
         (b"1 hold 2", BadKind::Count),
@@ -81,6 +82,11 @@ fn names_what_a_line_has_wrong(rt: HostRuntime) {
         (b"1 get cold a 1", BadKind::Count),
         (b"1 flush", BadKind::Count),
         (b"1 set cold rows", BadKind::Count),
+        (b"1 snap 1", BadKind::Count),
+        (b"1 gets 1 cold", BadKind::Count),
+        (b"1 gets cold a", BadKind::Count),
+        (b"1 gets 1 cold a b", BadKind::Count),
+        (b"1 unsnap", BadKind::Count),
         (b"1 get cold a # no comment", BadKind::Count),
         (b"1 put Cold a 1", BadKind::Name),
         (b"1 pin abcdefghijklmnopqrstuvwxyz0123456", BadKind::Name),
@@ -96,6 +102,11 @@ fn names_what_a_line_has_wrong(rt: HostRuntime) {
         (b"1 unpin 18446744073709551616", BadKind::Number),
         (b"1 unpin 000000000000000000001", BadKind::Number),
         (b"1 getp a %4", BadKind::Number),
+        (b"1 gets cold 1 a", BadKind::Number),
+        (b"1 gets x Cold %4", BadKind::Number),
+        (b"1 gets 1 Cold %4", BadKind::Name),
+        (b"1 gets 1 cold %4", BadKind::Item),
+        (b"1 unsnap -1", BadKind::Number),
         (b"1 set cold max_immutable 1x", BadKind::Number),
         (b"1 set cold rows 5", BadKind::Option),
     ] {
@@ -137,6 +148,9 @@ fn tests_one_line_in_order(rt: HostRuntime) {
         (b"1 purge", BadKind::Unbuilt),
         (b"1 scan", BadKind::Unbuilt),
         (b"00000000000000000001 rest", BadKind::Unbuilt),
+        (b"1 snap", BadKind::Unbuilt),
+        (b"1 gets 18446744073709551615 cold %", BadKind::Unbuilt),
+        (b"1 unsnap 0", BadKind::Unbuilt),
     ] {
         expect_bad(&rt, alloc, line, 1, kind);
     }

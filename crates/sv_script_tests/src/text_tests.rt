@@ -31,7 +31,7 @@ fn expect_line(rt: &impl Abort, alloc: Global, reply: &Reply, line: &str) -> Res
     Ok(())
 }
 
-const REPLIES: [(Reply, &str); 15] = [
+const REPLIES: [(Reply, &str); 17] = [
     (Reply::Put(1), "7 ok put 1\n"),
     (Reply::Delete(262_144), "7 ok delete 262144\n"),
     (
@@ -73,6 +73,14 @@ const REPLIES: [(Reply, &str); 15] = [
     (Reply::Hold(255), "7 ok hold 255\n"),
     (Reply::Unhold(0), "7 ok unhold 0\n"),
     (Reply::Rest(16), "7 ok rest 16\n"),
+    (
+        Reply::Snap {
+            snapshot: 1,
+            at: 262_144,
+        },
+        "7 ok snap 1 at 262144\n",
+    ),
+    (Reply::Unsnap, "7 ok unsnap\n"),
 ];
 
 #[test]

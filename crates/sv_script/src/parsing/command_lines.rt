@@ -9,7 +9,7 @@ use crate::commands::Command;
 use crate::parsing::decimals::lane_of;
 use crate::parsing::errors::WordError;
 use crate::parsing::operands::{
-    alone, family_alone, family_and_key, number_alone, pin_and_key, put, set,
+    alone, family_alone, family_and_key, gets, number_alone, pin_and_key, put, set,
 };
 use crate::parsing::verbs::{Verb, verb_of};
 use crate::scripts::{BadKind, MAX_COMMANDS};
@@ -63,6 +63,9 @@ fn of_verb(alloc: Global, verb: Verb, words: &[&[u8]]) -> Result<Command, WordEr
         Verb::Purge => alone(Command::Purge, words),
         Verb::Scan => alone(Command::Scan, words),
         Verb::Rest => alone(Command::Rest, words),
+        Verb::Snap => alone(Command::Snap, words),
+        Verb::Gets => gets(alloc, words),
+        Verb::Unsnap => Ok(Command::Unsnap(number_alone(words)?)),
     }
 }
 

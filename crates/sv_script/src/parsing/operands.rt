@@ -5,6 +5,7 @@ ghost use Rattle.sv_script.specs.Commands.{
   alone,
   family_alone,
   family_and_key,
+  gets_of,
   item,
   name,
   number,
@@ -90,6 +91,23 @@ pub(crate) fn pin_and_key(alloc: Global, words: &[&[u8]]) -> Result<(u64, Items<
     let pin = number(pin)?;
     let key = item(alloc, key)?;
     Ok((pin, key))
+}
+
+#[tactic(auto, unfolding(crate::specs::Commands::gets_of))]
+pub(crate) fn gets(alloc: Global, words: &[&[u8]]) -> Result<Command, WordError>
+    ensures { Gives result (gets_of (map (λ word. word.now) words.now)) }
+{
+    let [snapshot, family, key] = words else {
+        return Err(WordError::Bad(BadKind::Count));
+    };
+    let snapshot = number(snapshot)?;
+    let family = name(alloc, family)?;
+    let key = item(alloc, key)?;
+    Ok(Command::Gets {
+        snapshot,
+        family,
+        key,
+    })
 }
 
 #[tactic(auto, unfolding(crate::specs::Commands::set_of))]

@@ -25,6 +25,9 @@ pub(crate) enum Verb {
     Purge,
     Scan,
     Rest,
+    Snap,
+    Gets,
+    Unsnap,
 }
 
 pub(crate) fn is_word(word: &[u8], text: &[u8]) -> bool
@@ -34,7 +37,7 @@ pub(crate) fn is_word(word: &[u8], text: &[u8]) -> bool
 }
 
 // The words that name commands.
-const VERBS: [(&[u8], Verb); 19] = [
+const VERBS: [(&[u8], Verb); 22] = [
     (b"put", Verb::Put),
     (b"delete", Verb::Delete),
     (b"get", Verb::Get),
@@ -54,6 +57,9 @@ const VERBS: [(&[u8], Verb); 19] = [
     (b"purge", Verb::Purge),
     (b"scan", Verb::Scan),
     (b"rest", Verb::Rest),
+    (b"snap", Verb::Snap),
+    (b"gets", Verb::Gets),
+    (b"unsnap", Verb::Unsnap),
 ];
 
 // What stands beside the word in the table.

@@ -73,6 +73,11 @@ fn push_answer(out: &mut Vec<u8>, reply: &Reply) -> Result<(), OutOfMemory>
         Reply::Purge(numbers) => push_list(out, b"ok purge", numbers.as_slice()),
         Reply::Scan(numbers) => push_list(out, b"ok scan", numbers.as_slice()),
         Reply::Rest(count) => push_numbered(out, b"ok rest ", *count as u64),
+        Reply::Snap { snapshot, at } => {
+            push_numbered(out, b"ok snap ", *snapshot as u64)?;
+            push_numbered(out, b" at ", *at)
+        }
+        Reply::Unsnap => push_bytes(out, b"ok unsnap"),
         Reply::Refused(refusal) => push_refusal(out, *refusal),
     }
 }
