@@ -1,5 +1,5 @@
 -- What a lane knows along a borrow.
-use Rattle.std.proofs.Common.{Bool, List, Option, Some, [], ap, arith, cond, eq-eqb, false, get_or, le-leb, nat_le, ne_eqb, refl, subst, suc, sym, true, zero, ℕ, ⊎_elim, ◌+◌, ◌<◌, ◌∙◌, ◌∷◌, ◌≡◌, ◌≢◌, ◌≤◌}
+use Rattle.std.proofs.Common.{None, Bool, List, Option, Some, [], ap, arith, cond, eq-eqb, false, get_or, le-leb, nat_le, ne_eqb, refl, subst, suc, sym, true, zero, ℕ, ⊎_elim, ◌+◌, ◌<◌, ◌∙◌, ◌∷◌, ◌≡◌, ◌≢◌, ◌≤◌}
 use Rattle.atomic_table.specs.Table.{Me, rest}
 use Rattle.sv_model.specs.Lists.{In, same, total}
 use Rattle.sv_model.specs.declared.sv_refs.SvRef.{SvRef}
@@ -12,7 +12,7 @@ use Rattle.sv_rule.specs.Table.{slot_home, slot_of, spot}
 use Rattle.sv_rule.specs.Views.{Bodied, Body, Desk, LaneView, SlotView, Work, away, begun, borrow, held, idle, opens, sweeping}
 use Rattle.sv_rule.specs.declared.parts.Stored.{Stored}
 use Rattle.sv_rule.specs.declared.parts.Stored.TheVariants as is
-use Rattle.sv_slots.specs.Borrows.{IsHit, IsStale, IsTaken, Told, borrowed, handed, saw, swept_back}
+use Rattle.sv_slots.specs.Borrows.{IsHit, IsLooked, IsStale, IsTaken, Told, word_of, borrowed, handed, saw, swept_back}
 use Rattle.sv_slots.specs.Seats.{CarriesAt, CarriesNothing, CarriesRef, HasDesk, IsLane, bodied}
 
 put_put : {A : Type 0} (d : A) (l : List A) (i : ℕ) (a b : A) → put d (put d l i a) i b ≡ put d l i b
@@ -443,3 +443,56 @@ module _ {S D C B : Type 0} (body : B → Body) (f lane p r slot : ℕ) (sv : Sv
                 let x = put_put away m.0.slots.slot f (held p) away in
                 let h : reached p m.0.hand ≡ p ∷ m.0.hand = reached_pos p m.0.hand z in
                 (λ i. record (with_slots (x i) w) { hand = h i })
+
+-- ---- a load by a lane that has no slot in hand
+
+is_free_not : (x : SlotView) → ((p : ℕ) → x ≡ held p → ⊥) → is_free x ≡ false
+is_free_not away h = refl
+is_free_not (held zero) h = absurd (h 0 refl)
+is_free_not (held (suc p)) h = refl
+is_free_not (borrow p n) h = refl
+
+pub checked_same : (x : SlotView) (r n : ℕ) → ((p : ℕ) → x ≡ held p → ⊥) → checked x r n ≡ x
+checked_same away r n h = refl
+checked_same (held p) r n h = absurd (h p refl)
+checked_same (borrow p k) r n h = refl
+
+pub sees : {A : Type 0} (f now : ℕ) (m n : Me A LaneView) → Looked f m now n
+    → ((p : ℕ) → slot_of m.0 f ≡ held p → ⊥) → (a : Option ℕ) → now ≡ word_of a
+    → ((p : ℕ) → a ≡ Some p → 0 < p) → IsLooked f a m.0 n.0
+sees {A} f now m n load unheld a e pos = record {
+  view = ap (λ (z : Me A LaneView). z.0) load.is
+      ∙ (ap (λ (b : Bool). looked_by (cond b (cond (is_idle m.0.locks.db)
+      (cond (nat_le 256 now) (nat_le 1 (total (same now) m.0.hand)) false) false) false) f now m.0)
+      (is_free_not (slot_of m.0 f) unheld)
+      ∙ ap (λ (z : ℕ). looked_by false f z m.0) e);
+  told = subst (λ (z : ℕ). Told f z m.0) e
+      (record { current = load.current; rises = load.rises; there = load.there });
+  some = pos;
+}
+
+pub some_of : ℕ → Option ℕ
+some_of zero = None
+some_of (suc n) = Some (suc n)
+
+pub some_of_is : (n : ℕ) → n ≡ word_of (some_of n)
+unfolding some_of
+some_of_is zero = refl
+some_of_is (suc n) = refl
+
+some_is : (a b : ℕ) → Some a ≡ Some b → a ≡ b
+some_is a b e = cc
+
+no_some : (b : ℕ) → None ≡ Some b → ⊥
+no_some b e = cc
+
+pub some_of_pos : (n p : ℕ) → some_of n ≡ Some p → 0 < p
+unfolding some_of
+some_of_pos zero p e = absurd (no_some p e)
+some_of_pos (suc n) p e = omega (arith, some_is (suc n) p e)
+
+pub none_pos : (p : ℕ) → None ≡ Some p → 0 < p
+none_pos p e = absurd (no_some p e)
+
+pub some_pos : (n p : ℕ) → n ≢ 0 → Some n ≡ Some p → 0 < p
+some_pos n p ne e = omega (arith, ne, some_is n p e)

@@ -1,9 +1,9 @@
 -- What the calls on a lane's own slots make of its view, and what they answer.
-use Rattle.std.specs.Prelude.{◌≡◌, ◌≢◌, ◌+◌, ◌≤◌, ◌<◌, ◌∷◌, [], ℕ, Option, Some, None}
+use Rattle.std.specs.Prelude.{◌≡◌, ◌≢◌, ◌+◌, ◌≤◌, ◌<◌, ◌∷◌, [], ℕ, Option, Some, None, false}
 use Rattle.sv_model.specs.declared.sv_refs.SvRef.{SvRef}
 use Rattle.sv_model.specs.Lists.{In, times}
 use Rattle.sv_rule.specs.ReferencePlays.{learnt}
-use Rattle.sv_rule.specs.SlotPlays.{IsCurrentAt, counted, slotted}
+use Rattle.sv_rule.specs.SlotPlays.{IsCurrentAt, counted, looked_by, slotted}
 use Rattle.sv_rule.specs.Sums.{at, put, without}
 use Rattle.sv_rule.specs.Views.{Bodied, Body, LaneView, away, borrow}
 use Rattle.sv_slots.specs.Seats.{bodied}
@@ -94,3 +94,15 @@ pub record IsTaken {B : Type 0} (body : B → Body) (f : ℕ) (sv : SvRef B) (ol
 abbrev pub IsRested : {B : Type 0} → (B → Body) → ℕ → Option (SvRef B) → LaneView → LaneView → Type 0
 IsRested body f None old new = (r : ℕ) × (r < 3) × (new ≡ slotted f away 0 r old)
 IsRested body f (Some sv) old new = IsTaken body f sv old new
+
+-- ---- look
+
+abbrev pub word_of : Option ℕ → ℕ
+word_of None = 0
+word_of (Some p) = p
+
+-- the number word was 0 just where the answer is None
+pub record IsLooked (f : ℕ) (answer : Option ℕ) (old new : LaneView) : Type 0 where
+  pub view : new ≡ looked_by false f (word_of answer) old
+  pub told : Told f (word_of answer) old
+  pub some : (p : ℕ) → answer ≡ Some p → 0 < p

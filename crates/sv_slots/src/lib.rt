@@ -3,10 +3,20 @@
 #![tactic(auto)]
 
 mod borrows;
+mod install_steps;
+mod installs;
+mod lock_steps;
+mod locks;
+mod looks;
 mod order;
 mod own_slots;
+mod picks;
+mod refs;
+mod seats;
 mod steps;
 mod table;
 
 pub use borrows::{Back, Borrow, Miss};
+pub use picks::{Installing, Settling};
+pub use refs::{Owed, Sub};
 pub use table::{Core, LaneSeat};

@@ -1,6 +1,6 @@
 // The table, and what a lane steps with.
-ghost use Rattle.std.specs.Prelude.{◌≡◌, ℕ, ◌+◌, ◌*◌, ◌<◌};
-ghost use Rattle.sv_rule.specs.Table.{slot_home, slot_word, spot};
+ghost use Rattle.std.specs.Prelude.{◌≡◌, ◌<◌, ◌^◌};
+ghost use Rattle.sv_rule.specs.Table.{cell_word, slot_home, slot_word, spot};
 ghost use Rattle.sv_slots.specs.Seats.{IsLane, IsSized};
 ghost use Rattle.sv_slots.specs.Carried.{Carries};
 
@@ -46,7 +46,15 @@ pub(crate) fn slot_home_of(lane: u8, family: u8) -> usize
 
 /// The word that names a SuperVersion.
 pub(crate) fn word_of(pack: Pack) -> u64
-    ensures { result ≡ pack }
+    ensures value { result ≡ pack }
+    ensures small { result < 2 ^ 40 }
 {
     u64::from(pack.serial.0) * 256 + u64::from(pack.place)
+}
+
+/// The lock word of a cell, which is the number of its slot too.
+pub(crate) fn cell_word_of(cell: u8) -> usize
+    ensures { result ≡ cell_word cell }
+{
+    2 + usize::from(cell)
 }

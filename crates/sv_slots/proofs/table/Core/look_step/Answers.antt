@@ -10,6 +10,6 @@ load-requires g c =
     let is : 66 + c.from.result ≡ number_word g.J.Placed.family = omega (arith, r.family.0, c.from.ensures) in (
       r.table,
       omega (arith, t.words, c.from.ensures, r.family.1),
-      looks_at g.P.Parts.books g.P.Parts.disk g.P.Parts.cell g.P.Parts.body _ _ _ c.args.lane g.J.Placed.family _ r.lane
+      looks_at g.P.Parts.books g.P.Parts.disk g.P.Parts.cell g.P.Parts.body _ _ _ c.args._lane g.J.Placed.family _ r.lane
           near is,
     )
