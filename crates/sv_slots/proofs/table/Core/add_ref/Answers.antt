@@ -1,0 +1,14 @@
+use Rattle.std.proofs.Common.{ap}
+use Rattle.sv_slots.proofs.Carrying.{beside, carries_desk, lane_stands, seated}
+use Rattle.sv_rule.specs.Tasks.{some_count}
+use Rattle.sv_slots.proofs.table.Core.add_ref.Goals as goal
+
+pub invariant_of-seat : goal.invariant_of-seat
+invariant_of-seat g c =
+    let s = c.args.seat.now in let v = s.seat.me.0 in let n = c.add_step.new.seat.me in
+    let e = c.add_step.ensures.added in
+    record {
+      is_lane = lane_stands v n.0 s.lane (ap (λ z. seated z.0) e) s.is_lane;
+      carried = carries_desk v n.0 s.seat.me.1 n.1 s.out.items s.carried (ap (λ z. some_count z.0.locks.db) e)
+          (ap (λ z. beside z.0) e) (ap (λ z. z.1) e);
+    }

@@ -1,0 +1,16 @@
+use Rattle.std.proofs.Common.{ap, arith, sym, ◌<◌, ◌∙◌, ◌≤◌}
+use Rattle.sv_rule.specs.Table.{slot_word, spot}
+use Rattle.sv_slots.proofs.Laws.{puts_at}
+use Rattle.sv_slots.proofs.table.Core.put_step.Goals as goal
+
+pub compare_exchange-requires : goal.compare_exchange-requires
+compare_exchange-requires g c =
+    let t = c.args.self.now.sized in let r = c.requires in
+    let near : g.J.Placed.family < 16 = omega (arith, r.family.0, r.family.1) in
+    let is = c.slot_word_of-word.ensures ∙ ap (λ z. slot_word (spot c.args.lane z)) (sym r.family.0) in
+    let big : 256 ≤ g.K.Named.pack = omega (arith, r.pack.0, r.pack.1) in (
+      r.table,
+      omega (arith, t.words, c.slot_word_of-word.ensures, r.lane.low, r.family.1),
+      puts_at g.P.Parts.books g.P.Parts.disk g.P.Parts.cell g.P.Parts.body _ _ _ c.args.lane g.J.Placed.family _ r.lane
+          near is g.K.Named.pack c.args.pack r.pack.0 big r.borrow r.front,
+    )

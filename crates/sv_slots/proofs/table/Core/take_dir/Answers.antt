@@ -1,0 +1,18 @@
+use Rattle.std.proofs.Common.{ap, arith}
+use Rattle.sv_slots.proofs.Carrying.{carries_few, lane_stands, seated}
+use Rattle.sv_slots.proofs.LockCarrying.{takes_dir}
+use Rattle.sv_slots.proofs.table.Core.take_dir.Goals as goal
+
+pub insert-requires : goal.insert-requires
+insert-requires g c =
+    let s = c.args.seat.now in (omega arith, (omega arith, carries_few s.seat.me.0 s.seat.me.1 s.out.items s.carried))
+
+pub invariant_of-seat : goal.invariant_of-seat
+invariant_of-seat g c =
+    let s = c.args.seat.now in let v = s.seat.me.0 in let n = c.take_dir_at-dir.new.seat.me in
+    let e = c.take_dir_at-dir.ensures.took in
+    record {
+      is_lane = lane_stands v n.0 s.lane (ap (λ z. seated z.0) e) s.is_lane;
+      carried = takes_dir v n.0 s.seat.me.1 n.1 s.out.items c.insert.new.self.items s.carried (g.P.Parts.disk c.take_dir_at-dir.result) (ap (λ z. z.0) e)
+          c.requires.free (ap (λ z. z.1) e) c.insert.ensures.items;
+    }

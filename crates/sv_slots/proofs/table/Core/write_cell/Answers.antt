@@ -1,0 +1,25 @@
+use Rattle.std.proofs.Common.{ap, subst, sym, ◌∙◌}
+use Rattle.sv_rule.specs.LockPlays.{MayWriteCell}
+use Rattle.sv_rule.specs.Views.{LaneView}
+use Rattle.sv_slots.proofs.Carrying.{lane_stands, seated}
+use Rattle.sv_slots.proofs.LockCarrying.{has_cell, writes_cell}
+use Rattle.sv_slots.specs.Carried.{ahead}
+use Rattle.sv_rule.specs.Table.{cell_word}
+use Rattle.sv_slots.proofs.table.Core.write_cell.Goals as goal
+
+pub bring-requires : goal.bring-requires
+bring-requires g c = let s = c.args.seat.now in has_cell s.seat.me.0 s.seat.me.1 s.out.items s.carried c.cell_word_of.result g.J.Writes.cell c.requires.lock.found (c.cell_word_of.ensures ∙ ap cell_word (sym c.requires.cell.0)) c.requires.lock.cell
+
+pub write_cell_at-requires-clause-lock : goal.write_cell_at-requires-clause-lock
+write_cell_at-requires-clause-lock g c = subst (λ (z : LaneView). MayWriteCell z g.J.Writes.cell g.J.Writes.books g.J.Writes.task g.J.Writes.more (g.P.Parts.cell c.args.cell) g.J.Writes.family g.J.Writes.seen) (sym c.bring.ensures.same.2) c.requires.lock
+
+pub invariant_of-seat : goal.invariant_of-seat
+invariant_of-seat g c =
+    let s = c.bring.new.self in let v = s.seat.me.0 in let n = c.write_cell_at.new.seat.me in
+    let e = c.write_cell_at.ensures.wrote in
+    let was = c.bring.ensures.same.2 in
+    record {
+      is_lane = lane_stands v n.0 s.lane (ap (λ z. seated z.0) e) s.is_lane;
+      carried = writes_cell v n.0 s.seat.me.1 n.1 s.out.items c.remove.new.self.items s.carried g.J.Writes.desk g.J.Writes.cell g.J.Writes.books g.J.Writes.task g.J.Writes.more g.J.Writes.family g.J.Writes.seen c.requires.lock.found c.requires.lock.desk (ap (λ z. z.0) e)
+          (ap (λ (z : LaneView). z.locks.db) was ∙ c.requires.lock.has) (ap (λ (z : LaneView). z.locks.cell) was ∙ c.requires.lock.cell) (ap (λ z. ahead z s.out.items) (sym (c.cell_word_of.ensures ∙ ap cell_word (sym c.requires.cell.0))) ∙ c.bring.ensures.first) (ap (λ z. z.1) e) c.remove.ensures.items;
+    }

@@ -1,0 +1,5 @@
+pub mod Carried
+pub mod Seats
+pub mod Borrows
+pub mod References
+pub mod Installs

@@ -1,0 +1,81 @@
+// References to SuperVersions.
+ghost use Rattle.std.specs.Prelude.{◌≡◌, ◌<◌, ◌≤◌, IfErr, IfOk, length};
+ghost use Rattle.sv_model.specs.Lists.{same, total};
+ghost use Rattle.sv_rule.specs.ReferencePlays.{CanAdd, MayDropAt, added};
+ghost use Rattle.sv_slots.specs.Seats.{bodied};
+
+use crate::table::{Core, LaneSeat, word_of};
+use std::marker::Brand;
+use std::sync::Arc;
+use sv_model::{OutOfMemory, Pack, SvRef};
+use sv_rule::Parts;
+
+/// The count in a reference word is below this number.
+const COUNTS: u64 = 1 << 32;
+
+/// The cleanup of a SuperVersion whose last reference was dropped. It is moved and never copied.
+#[derive(Drop)]
+pub struct Owed {
+    pub(crate) pack: Pack,
+}
+
+/// What was left when a reference was dropped.
+#[derive(Drop)]
+pub enum Sub {
+    More,
+    Last(Owed),
+}
+
+impl Owed {
+    pub fn pack(&self) -> Pack
+        ensures { result ≡ self.now.pack }
+    {
+        self.pack
+    }
+}
+
+impl<P: Parts> Core<P> {
+    ghost use Rattle.sv_slots.specs.References.{IsDropped, NotLast};
+
+    /// One more reference of a SuperVersion.
+    pub fn add_ref(
+        &self,
+        seat: &mut LaneSeat<P>,
+        of: &SvRef<P::Body>,
+    ) -> Result<SvRef<P::Body>, OutOfMemory>
+        requires table { seat.old.seat.table_id ≡ self.now.table.shared.table_id }
+        requires held { (256 ≤ of.now.pack) × CanAdd (bodied P.body of.now) seat.old.seat.me.0 }
+        requires room { length seat.old.seat.me.0.hand < 65600 }
+        ensures same { (seat.new.seat.table_id ≡ seat.old.seat.table_id) × (seat.new.lane ≡ seat.old.lane) }
+        ensures ok { IfOk result (λ r. (bodied P.body r ≡ bodied P.body of.now) × (seat.new.seat.me.0 ≡ added (bodied P.body of.now) seat.old.seat.me.0)) }
+        ensures err { IfErr result (λ _. seat.new.seat.me.0 ≡ seat.old.seat.me.0) }
+    {
+        let body = Arc::try_clone(&of.body)?;
+        let lane = seat.lane;
+        self.add_step::<Brand>(&mut seat.seat, lane, of, word_of(of.pack));
+        Ok(SvRef {
+            pack: of.pack,
+            body,
+        })
+    }
+
+    /// Drops a reference that is in the lane's hand.
+    pub fn drop_ref(&self, seat: &mut LaneSeat<P>, held: SvRef<P::Body>) -> Sub
+        requires table { seat.old.seat.table_id ≡ self.now.table.shared.table_id }
+        requires held { (256 ≤ held.pack) × (0 < total (same held.pack) seat.old.seat.me.0.hand) }
+        requires may { MayDropAt held.pack seat.old.seat.me.0.seat.lanes seat.old.seat.me.0.hand seat.old.seat.me.0.locks.db }
+        ensures same { (seat.new.seat.table_id ≡ seat.old.seat.table_id) × (seat.new.lane ≡ seat.old.lane) }
+        ensures view { IsDropped held.pack result seat.old.seat.me.0 seat.new.seat.me.0 }
+        ensures more { NotLast held.pack result seat.old.seat.me.0 }
+    {
+        let SvRef { pack, body } = held;
+        drop(body);
+        let lane = seat.lane;
+        let found = self.subtract_step::<Brand>(&mut seat.seat, lane, word_of(pack));
+        if found % COUNTS == 1 {
+            Sub::Last(Owed { pack })
+        } else {
+            Sub::More
+        }
+    }
+}
