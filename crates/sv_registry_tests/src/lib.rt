@@ -2,6 +2,8 @@
 #![tactic(auto)]
 
 #[cfg(test)]
+mod books;
+#[cfg(test)]
 mod file_tests;
 #[cfg(test)]
 mod registry_tests;

@@ -1,4 +1,4 @@
--- What the books of worked rows are made of.
+-- What the books of worked examples are made of.
 use Rattle.std.specs.Prelude.{◌≡◌, ℕ, Bool, true, false, List, [], ◌∷◌, Some, None, replicate, codes}
 use Rattle.sv_model.specs.declared.writes.Op.{Op}
 use Rattle.sv_model.specs.declared.writes.Write.{Write}

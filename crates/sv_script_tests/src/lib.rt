@@ -4,4 +4,8 @@
 #[cfg(test)]
 mod parsing_tests;
 #[cfg(test)]
+mod report_tests;
+#[cfg(test)]
+mod samples;
+#[cfg(test)]
 mod text_tests;
