@@ -13,7 +13,7 @@ use Rattle.sv_model.specs.Families.{AreFamilies, HasHandle, InRange, IsOwn, IsOw
 use Rattle.sv_model.proofs.Registers.{entry-same, entry-else}
 use Rattle.sv_model.proofs.Refusing.{none_due}
 use Rattle.sv_family.specs.Calls.{IsChanged, as_dropped, with_option, with_handle, as_set}
-use Rattle.sv_family.specs.Refused.{change_fault, has_handle, option_fault, set_fault, when}
+use Rattle.sv_family.specs.Refused.{change_refusal, has_handle, option_refusal, set_refusal, when}
 use Rattle.sv_family.proofs.Seeking.{own_known}
 use Rattle.sv_family.proofs.Lawful.{lawful_set, get_set, apart_or, some}
 
@@ -99,10 +99,10 @@ in_range value most e h = by (nat_le 1 value) (nat_le value most) refl refl h
     by false b x y q = absurd (let clash : Some e ≡ None = q in cc)
 
 pub set_in_range : (families : List Family) (lane : ℕ) (name : List ℕ) (option : OptionName) (value : ℕ) →
-    set_fault families lane name option value ≡ None → (1 ≤ value) × (value ≤ greatest_of option)
+    set_refusal families lane name option value ≡ None → (1 ≤ value) × (value ≤ greatest_of option)
 set_in_range families lane name option value h =
     in_range value (greatest_of option) (refusal.BadOption value 1 (greatest_of option))
-    (none_due (option_fault option value) (change_fault families lane name ∷ []) h).0
+    (none_due (option_refusal option value) (change_refusal families lane name ∷ []) h).0
 
 option_in_range : (option : OptionName) (value : ℕ) (o : Options) → InRange o →
     (1 ≤ value) × (value ≤ greatest_of option) → InRange (with_option option value o)

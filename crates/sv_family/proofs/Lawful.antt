@@ -10,7 +10,7 @@ use Rattle.sv_model.proofs.Registers.{entry-old, entry-same, entry-else, entry_p
 use Rattle.sv_model.proofs.Refusing.{none_due}
 use Rattle.sv_family.specs.declared.making.TheConstants.{MAX_FAMILIES}
 use Rattle.sv_family.specs.Calls.{new_family}
-use Rattle.sv_family.specs.Refused.{create_fault, handle_fault, has_handle, stands, taken_fault, when}
+use Rattle.sv_family.specs.Refused.{create_refusal, handle_refusal, has_handle, stands, taken_refusal, when}
 use Rattle.sv_family.proofs.Seeking.{own_known, standing_known}
 
 pub some : {A : Type 0} (x y : A) → Some x ≡ Some y → x ≡ y
@@ -180,11 +180,11 @@ pub record IsFree (families : List Family) (lane : ℕ) (name : List ℕ) : Type
   pub unheld : has_handle families lane name ≡ false
   pub room : length families < 16
 
-pub free_is : (families : List Family) (lane : ℕ) (name : List ℕ) → create_fault families lane name ≡ None →
+pub free_is : (families : List Family) (lane : ℕ) (name : List ℕ) → create_refusal families lane name ≡ None →
     IsFree families lane name
 free_is families lane name h =
-    let first = none_due (taken_fault families name) _ h in
-    let second = none_due (handle_fault families lane name) _ first.1 in
+    let first = none_due (taken_refusal families name) _ h in
+    let second = none_due (handle_refusal families lane name) _ first.1 in
     let third = none_due (when (nat_le MAX_FAMILIES (length families)) refusal.TooManyFamilies) [] second.1 in
     record {
       untaken = none_due_of (stands families name) refusal.NameTaken first.0;
@@ -193,10 +193,10 @@ free_is families lane name h =
     }
 
 pub lawful_create : (families self : List Family) (lane : ℕ) (name : List ℕ) (y : Family) → families ≡ self →
-    AreFamilies families → create_fault self lane name ≡ None → y ≡ new_family lane name →
+    AreFamilies families → create_refusal self lane name ≡ None → y ≡ new_family lane name →
     AreFamilies (families ++ y ∷ [])
 lawful_create families self lane name y same h due y_is =
-    let free = free_is families lane name (ap (λ l. create_fault l lane name) same ∙ due) in
+    let free = free_is families lane name (ap (λ l. create_refusal l lane name) same ∙ due) in
     subst (λ f. AreFamilies (families ++ f ∷ [])) (sym y_is) (lawful_push families (new_family lane name) h (record {
       room = free.room;
       free = λ other own g z g_is so. (

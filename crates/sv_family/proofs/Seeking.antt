@@ -14,7 +14,7 @@ use Rattle.sv_model.specs.declared.refusals.Refusal.TheVariants as refusal
 use Rattle.sv_model.specs.Lists.{bit, total}
 use Rattle.sv_model.specs.Refusals.{first_due}
 use Rattle.sv_model.specs.Families.{AtMostOne, IsOwn, IsStanding, is_retired}
-use Rattle.sv_family.specs.Refused.{dropped_fault, has_handle, is_own, is_standing, stands, when}
+use Rattle.sv_family.specs.Refused.{dropped_refusal, has_handle, is_own, is_standing, stands, when}
 
 -- ---- the scan
 any_next : (b rest : Bool) (k n : ℕ) → rest ≡ ltb k n → (b || rest) ≡ ltb (cond (not b) (1 + k) 0) (suc n)
@@ -145,7 +145,7 @@ module _ (families : List Family) (lane : ℕ) (name : List ℕ) (id : ℕ) (fou
 
   -- the handle is of a dropped family
   dropped_due : option_map (λ f. f.dropped) (slice_get families id) ≡ Some true →
-      dropped_fault families lane name ≡ Some refusal.Dropped
+      dropped_refusal families lane name ≡ Some refusal.Dropped
   dropped_due e =
       let h = read_dropped true e in
       let passes : (is_own lane name h.0 && h.0.dropped) ≡ true = ap (λ b. b && h.0.dropped) (own_test lane name h.0 h.2) ∙ h.3 in
@@ -153,7 +153,7 @@ module _ (families : List Family) (lane : ℕ) (name : List ℕ) (id : ℕ) (fou
 
   -- no other handle of the name is the lane's
   dropped_not_due : AtMostOne (IsOwn lane name) families →
-      option_map (λ f. f.dropped) (slice_get families id) ≡ Some false → dropped_fault families lane name ≡ None
+      option_map (λ f. f.dropped) (slice_get families id) ≡ Some false → dropped_refusal families lane name ≡ None
   dropped_not_due one e =
       let h = read_dropped false e in
       ap (λ b. when b refusal.Dropped) (none_any (λ f. is_own lane name f && f.dropped) families (λ i x at. fails (is_own lane name x) x.dropped (λ own.
@@ -170,16 +170,16 @@ module _ (families : List Family) (lane : ℕ) (name : List ℕ) (id : ℕ) (fou
   -- and so after another test
   pub dropped_due_next : (first : Option Refusal) → first ≡ None →
       option_map (λ f. f.dropped) (slice_get families id) ≡ Some true →
-      first_due (first ∷ dropped_fault families lane name ∷ []) ≡ Some refusal.Dropped
+      first_due (first ∷ dropped_refusal families lane name ∷ []) ≡ Some refusal.Dropped
   dropped_due_next first none e =
-      ap (λ d. first_due (d ∷ dropped_fault families lane name ∷ [])) none
+      ap (λ d. first_due (d ∷ dropped_refusal families lane name ∷ [])) none
       ∙ ap (λ d. first_due (d ∷ [])) (dropped_due e)
 
   pub dropped_not_due_next : (first : Option Refusal) → first ≡ None → AtMostOne (IsOwn lane name) families →
       option_map (λ f. f.dropped) (slice_get families id) ≡ Some false →
-      first_due (first ∷ dropped_fault families lane name ∷ []) ≡ None
+      first_due (first ∷ dropped_refusal families lane name ∷ []) ≡ None
   dropped_not_due_next first none one e =
-      ap (λ d. first_due (d ∷ dropped_fault families lane name ∷ [])) none
+      ap (λ d. first_due (d ∷ dropped_refusal families lane name ∷ [])) none
       ∙ ap (λ d. first_due (d ∷ [])) (dropped_not_due one e)
 
 -- ---- no lane has a handle

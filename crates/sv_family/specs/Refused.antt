@@ -31,49 +31,49 @@ has_handle families lane name = list_any (is_own lane name) families
 abbrev pub when : Bool → Refusal → Option Refusal
 when due e = cond due (Some e) None
 
-abbrev pub default_fault : List ℕ → Option Refusal
-default_fault name = when (bytes_eq name default_name) refusal.IsDefault
+abbrev pub default_refusal : List ℕ → Option Refusal
+default_refusal name = when (bytes_eq name default_name) refusal.IsDefault
 
-abbrev pub option_fault : OptionName → ℕ → Option Refusal
-option_fault option value =
+abbrev pub option_refusal : OptionName → ℕ → Option Refusal
+option_refusal option value =
     when (not (nat_le 1 value && nat_le value (greatest_of option)))
     (refusal.BadOption value 1 (greatest_of option))
 
-abbrev pub taken_fault : List Family → List ℕ → Option Refusal
-taken_fault families name = when (stands families name) refusal.NameTaken
+abbrev pub taken_refusal : List Family → List ℕ → Option Refusal
+taken_refusal families name = when (stands families name) refusal.NameTaken
 
-abbrev pub handle_fault : List Family → ℕ → List ℕ → Option Refusal
-handle_fault families lane name = when (has_handle families lane name) refusal.AlreadyOpen
+abbrev pub handle_refusal : List Family → ℕ → List ℕ → Option Refusal
+handle_refusal families lane name = when (has_handle families lane name) refusal.AlreadyOpen
 
 -- the lane's handle is of a dropped family
-abbrev pub dropped_fault : List Family → ℕ → List ℕ → Option Refusal
-dropped_fault families lane name = when (list_any (λ f. is_own lane name f && f.dropped) families) refusal.Dropped
+abbrev pub dropped_refusal : List Family → ℕ → List ℕ → Option Refusal
+dropped_refusal families lane name = when (list_any (λ f. is_own lane name f && f.dropped) families) refusal.Dropped
 
-abbrev pub limit_fault : List Family → Option Refusal
-limit_fault families = when (nat_le MAX_FAMILIES (length families)) refusal.TooManyFamilies
+abbrev pub limit_refusal : List Family → Option Refusal
+limit_refusal families = when (nat_le MAX_FAMILIES (length families)) refusal.TooManyFamilies
 
 -- ---- the calls
 
-abbrev pub create_fault : List Family → ℕ → List ℕ → Option Refusal
-create_fault families lane name =
-    first_due (taken_fault families name ∷ handle_fault families lane name ∷ limit_fault families ∷ [])
+abbrev pub create_refusal : List Family → ℕ → List ℕ → Option Refusal
+create_refusal families lane name =
+    first_due (taken_refusal families name ∷ handle_refusal families lane name ∷ limit_refusal families ∷ [])
 
-abbrev pub find_fault : List Family → ℕ → List ℕ → Option Refusal
-find_fault families lane name =
+abbrev pub find_refusal : List Family → ℕ → List ℕ → Option Refusal
+find_refusal families lane name =
     when (not (has_handle families lane name)) (cond (stands families name) refusal.NotOpen refusal.NoFamily)
 
-abbrev pub open_fault : List Family → ℕ → List ℕ → Option Refusal
-open_fault families lane name =
-    first_due (handle_fault families lane name ∷ when (not (stands families name)) refusal.NoFamily ∷ [])
+abbrev pub open_refusal : List Family → ℕ → List ℕ → Option Refusal
+open_refusal families lane name =
+    first_due (handle_refusal families lane name ∷ when (not (stands families name)) refusal.NoFamily ∷ [])
 
-abbrev pub release_fault : List Family → ℕ → List ℕ → Option Refusal
-release_fault families lane name = first_due (default_fault name ∷ find_fault families lane name ∷ [])
+abbrev pub release_refusal : List Family → ℕ → List ℕ → Option Refusal
+release_refusal families lane name = first_due (default_refusal name ∷ find_refusal families lane name ∷ [])
 
-abbrev pub change_fault : List Family → ℕ → List ℕ → Option Refusal
-change_fault families lane name = first_due (find_fault families lane name ∷ dropped_fault families lane name ∷ [])
+abbrev pub change_refusal : List Family → ℕ → List ℕ → Option Refusal
+change_refusal families lane name = first_due (find_refusal families lane name ∷ dropped_refusal families lane name ∷ [])
 
-abbrev pub drop_fault : List Family → ℕ → List ℕ → Option Refusal
-drop_fault families lane name = first_due (release_fault families lane name ∷ dropped_fault families lane name ∷ [])
+abbrev pub drop_refusal : List Family → ℕ → List ℕ → Option Refusal
+drop_refusal families lane name = first_due (release_refusal families lane name ∷ dropped_refusal families lane name ∷ [])
 
-abbrev pub set_fault : List Family → ℕ → List ℕ → OptionName → ℕ → Option Refusal
-set_fault families lane name option value = first_due (option_fault option value ∷ change_fault families lane name ∷ [])
+abbrev pub set_refusal : List Family → ℕ → List ℕ → OptionName → ℕ → Option Refusal
+set_refusal families lane name option value = first_due (option_refusal option value ∷ change_refusal families lane name ∷ [])

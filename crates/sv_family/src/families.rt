@@ -5,7 +5,7 @@ ghost use Rattle.sv_model.specs.declared.records.Family.{Family};
 ghost use Rattle.sv_model.specs.Families.{AreFamilies, IsOwn, IsOwnStanding, IsStanding, default_family, greatest_of, is_retired};
 ghost use Rattle.sv_model.specs.Refusals.{Refuses, RefusesExactly};
 ghost use Rattle.sv_family.specs.Calls.{IsChanged, IsCreated, as_dropped, as_set, with_handle};
-ghost use Rattle.sv_family.specs.Refused.{change_fault, create_fault, drop_fault, find_fault, has_handle, open_fault, release_fault, set_fault, stands};
+ghost use Rattle.sv_family.specs.Refused.{change_refusal, create_refusal, drop_refusal, find_refusal, has_handle, open_refusal, release_refusal, set_refusal, stands};
 
 use crate::making::{MAX_FAMILIES, default_family, new_family};
 use crate::ranges;
@@ -88,7 +88,7 @@ impl Families {
     /// were made. Takes no memory.
     pub fn create_refusal(&self, lane: u8, name: &Name) -> Option<Refusal>
         requires { lane < MAX_LANES }
-        ensures { result ≡ create_fault self.now lane name.now }
+        ensures { result ≡ create_refusal self.now lane name.now }
     {
         if self.standing(name).is_some() {
             return Some(Refusal::NameTaken);
@@ -107,7 +107,7 @@ impl Families {
     pub fn create(&mut self, lane: u8, name: &Name) -> Result<FamilyId, Refusal>
         requires { lane < MAX_LANES }
         ensures made { IfOk result (λ id. IsCreated self.old lane name.now id self.new) }
-        ensures refused { Refuses (create_fault self.old lane name.now) result }
+        ensures refused { Refuses (create_refusal self.old lane name.now) result }
         ensures kept { OnErr result (self.new ≡ self.old) }
         ensures lawful { AreFamilies self.new }
     {
@@ -137,7 +137,7 @@ impl Families {
     pub fn find(&self, lane: u8, name: &Name) -> Result<FamilyId, Refusal>
         requires { lane < MAX_LANES }
         ensures found { IfOk result (λ id. IsSomeAnd (slice_get self.now id) (IsOwn lane name.now)) }
-        ensures refused { RefusesExactly (find_fault self.now lane name.now) result }
+        ensures refused { RefusesExactly (find_refusal self.now lane name.now) result }
         ensures lawful { AreFamilies self.now }
     {
         if let Some(own) = self.own(lane, name) {
@@ -153,7 +153,7 @@ impl Families {
     pub fn find_undropped(&self, lane: u8, name: &Name) -> Result<FamilyId, Refusal>
         requires { lane < MAX_LANES }
         ensures found { IfOk result (λ id. IsSomeAnd (slice_get self.now id) (IsOwnStanding lane name.now)) }
-        ensures refused { RefusesExactly (change_fault self.now lane name.now) result }
+        ensures refused { RefusesExactly (change_refusal self.now lane name.now) result }
     {
         let id = self.find(lane, name)?;
         if self.is_dropped(id) {
@@ -168,7 +168,7 @@ impl Families {
     pub fn open_family(&mut self, lane: u8, name: &Name) -> Result<FamilyId, Refusal>
         requires { lane < MAX_LANES }
         ensures changed { IfOk result (λ id. IsChanged (IsStanding name.now) (with_handle lane true) self.old id self.new) }
-        ensures refused { RefusesExactly (open_fault self.old lane name.now) result }
+        ensures refused { RefusesExactly (open_refusal self.old lane name.now) result }
         ensures kept { OnErr result (self.new ≡ self.old) }
         ensures lawful { AreFamilies self.new }
     {
@@ -189,7 +189,7 @@ impl Families {
         requires { lane < MAX_LANES }
         ensures changed { IfOk result (λ id. IsChanged (IsOwn lane name.now) (with_handle lane false) self.old id self.new) }
         ensures other { IfOk result (λ id. 0 < id) }
-        ensures refused { RefusesExactly (release_fault self.old lane name.now) result }
+        ensures refused { RefusesExactly (release_refusal self.old lane name.now) result }
         ensures kept { OnErr result (self.new ≡ self.old) }
         ensures lawful { AreFamilies self.new }
     {
@@ -206,7 +206,7 @@ impl Families {
         requires { lane < MAX_LANES }
         ensures changed { IfOk result (λ id. IsChanged (IsOwnStanding lane name.now) as_dropped self.old id self.new) }
         ensures other { IfOk result (λ id. 0 < id) }
-        ensures refused { RefusesExactly (drop_fault self.old lane name.now) result }
+        ensures refused { RefusesExactly (drop_refusal self.old lane name.now) result }
         ensures kept { OnErr result (self.new ≡ self.old) }
         ensures lawful { AreFamilies self.new }
     {
@@ -231,7 +231,7 @@ impl Families {
         requires { lane < MAX_LANES }
         ensures found { IfOk result (λ id. IsSomeAnd (slice_get self.now id) (IsOwnStanding lane name.now)) }
         ensures within { IfOk result (λ id. value ≤ greatest_of option) }
-        ensures refused { RefusesExactly (set_fault self.now lane name.now option value) result }
+        ensures refused { RefusesExactly (set_refusal self.now lane name.now option value) result }
     {
         if let Some(refusal) = ranges::refusal(option, value) {
             return Err(refusal);
@@ -250,7 +250,7 @@ impl Families {
     ) -> Result<FamilyId, Refusal>
         requires { lane < MAX_LANES }
         ensures changed { IfOk result (λ id. IsChanged (IsOwnStanding lane name.now) (as_set option value) self.old id self.new) }
-        ensures refused { RefusesExactly (set_fault self.old lane name.now option value) result }
+        ensures refused { RefusesExactly (set_refusal self.old lane name.now option value) result }
         ensures kept { OnErr result (self.new ≡ self.old) }
         ensures lawful { AreFamilies self.new }
     {
@@ -265,7 +265,7 @@ impl Families {
         requires { lane < MAX_LANES }
         ensures found { IfOk result (λ id. IsSomeAnd (slice_get self.now id) (IsOwn lane name.now)) }
         ensures other { IfOk result (λ id. 0 < id) }
-        ensures refused { RefusesExactly (release_fault self.now lane name.now) result }
+        ensures refused { RefusesExactly (release_refusal self.now lane name.now) result }
         ensures lawful { AreFamilies self.now }
     {
         // Read first, so that the laws of the families are known in each answer.

@@ -2,7 +2,7 @@
 ghost use Rattle.std.specs.Prelude.{◌≡◌, ◌≤◌};
 ghost use Rattle.sv_model.specs.Families.{greatest_of};
 ghost use Rattle.sv_family.specs.Calls.{with_option};
-ghost use Rattle.sv_family.specs.Refused.{option_fault};
+ghost use Rattle.sv_family.specs.Refused.{option_refusal};
 
 use sv_model::{OptionName, Options, Refusal};
 
@@ -23,7 +23,7 @@ fn greatest(option: OptionName) -> u64
 
 // The refusal that the value meets, if it is outside the option's range.
 pub(crate) fn refusal(option: OptionName, value: u64) -> Option<Refusal>
-    ensures { result ≡ option_fault option value }
+    ensures { result ≡ option_refusal option value }
 {
     let greatest = greatest(option);
     if 1 <= value && value <= greatest {

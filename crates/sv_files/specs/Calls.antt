@@ -31,8 +31,8 @@ pub record AreNamed (next : ℕ) (files : List (ℕ × ℕ)) : Type 0 where
 -- ---- captures
 
 -- the refusal that a capture meets: 1,048,576 numbers were captured, or the next one is the greatest of all
-abbrev pub capture_fault : FileRegister → Option Refusal
-capture_fault r =
+abbrev pub capture_refusal : FileRegister → Option Refusal
+capture_refusal r =
     if nat_le 1048576 (captures r.numbers) || (r.next == 18446744073709551615) then Some RegisterFull else None
 
 -- The next number is registered last as Pending, and is the family's captured number.
@@ -56,11 +56,11 @@ pub record Settles (number : ℕ) (now : FileStatus) (old new : FileRegister) : 
 -- ---- holds
 
 -- the refusals that a hold and its end meet
-abbrev pub hold_fault : ℕ → Option Refusal
-hold_fault count = if count == 255 then Some TooManyHolds else None
+abbrev pub hold_refusal : ℕ → Option Refusal
+hold_refusal count = if count == 255 then Some TooManyHolds else None
 
-abbrev pub unhold_fault : ℕ → Option Refusal
-unhold_fault count = if count == 0 then Some NoHold else None
+abbrev pub unhold_refusal : ℕ → Option Refusal
+unhold_refusal count = if count == 0 then Some NoHold else None
 
 -- the lane has this count of holds
 abbrev pub with_hold : FileRegister → ℕ → ℕ → FileRegister

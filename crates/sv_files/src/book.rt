@@ -4,7 +4,7 @@ ghost use Rattle.sv_model.specs.declared.records.FileStatus.TheVariants as statu
 ghost use Rattle.sv_model.specs.declared.refusals.Refusal.TheVariants.{RegisterFull};
 ghost use Rattle.sv_model.specs.Numbers.{FilesStand, IsRegistered, MarksOnly, captures, least_captured, registered};
 ghost use Rattle.sv_model.specs.Refusals.{Refuses};
-ghost use Rattle.sv_files.specs.Calls.{AreNamed, Settles, capture_fault, captured_for, live_file, opened, settled_status};
+ghost use Rattle.sv_files.specs.Calls.{AreNamed, Settles, capture_refusal, captured_for, live_file, opened, settled_status};
 
 mod counts;
 mod finding;
@@ -107,7 +107,7 @@ impl FileBook {
         requires idle { slice_get self.old.captured family ≡ Some None }
         ensures captured { IfOk result
             (λ number. (number ≡ self.old.next) × (self.new ≡ captured_for self.old family)) }
-        ensures refused { Refuses (capture_fault self.old) result }
+        ensures refused { Refuses (capture_refusal self.old) result }
         ensures kept { OnErr result (self.new ≡ self.old) }
     {
         if self.made >= MAX_CAPTURED || self.next == u64::MAX {
@@ -174,7 +174,7 @@ impl FileBook {
     /// Whether a capture would be refused: 1,048,576 numbers were captured or the next number is the
     /// greatest `u64`. Takes no memory.
     pub fn is_full(&self) -> bool
-        ensures { capture_fault self.now ≡ (if result then Some RegisterFull else None) }
+        ensures { capture_refusal self.now ≡ (if result then Some RegisterFull else None) }
     {
         self.made >= MAX_CAPTURED || self.next == u64::MAX
     }

@@ -15,14 +15,14 @@ abbrev pub when : Bool → Refusal → Option Refusal
 when due e = cond due (Some e) None
 
 -- the refusal of a write where the journal takes no more
-abbrev pub full_fault : List Write → Option Refusal
-full_fault writes = when (nat_le 262144 (length writes)) refusal.JournalFull
+abbrev pub journal_refusal : List Write → Option Refusal
+journal_refusal writes = when (nat_le 262144 (length writes)) refusal.JournalFull
 
 -- ---- snapshots
 
 -- the refusal that a snapshot meets: 1,048,576 were made, or 64 are Live
-abbrev pub snap_fault : List Snapshot → Option Refusal
-snap_fault snapshots =
+abbrev pub snap_refusal : List Snapshot → Option Refusal
+snap_refusal snapshots =
     first_due (
     when (nat_le 1048576 (length snapshots)) refusal.RegisterFull
     ∷ when (nat_le 64 (total (λ s. bit s.live) snapshots)) refusal.TooManySnapshots
@@ -33,8 +33,8 @@ snap_fault snapshots =
 abbrev pub is_live_snapshot : List Snapshot → ℕ → Bool
 is_live_snapshot snapshots id = unwrap_or (option_map (λ s. s.live) (entry snapshots id)) false
 
-abbrev pub snapshot_fault : List Snapshot → ℕ → Option Refusal
-snapshot_fault snapshots id = when (not (is_live_snapshot snapshots id)) refusal.NoSnapshot
+abbrev pub snapshot_refusal : List Snapshot → ℕ → Option Refusal
+snapshot_refusal snapshots id = when (not (is_live_snapshot snapshots id)) refusal.NoSnapshot
 
 -- A snapshot more, which reads what all writes so far leave.
 pub record IsSnapped (old : JournalSeen) (id at : ℕ) (new : JournalSeen) : Type 0 where

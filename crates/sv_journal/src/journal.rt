@@ -2,7 +2,7 @@
 ghost use Rattle.std.specs.Prelude.{◌≡◌, ◌+◌, ◌<◌, ◌≤◌, ◌∷◌, ◌++◌, [], OnOk, OnErr, length, cond};
 ghost use Rattle.sv_model.specs.Journal.{of_family};
 ghost use Rattle.sv_model.specs.declared.refusals.Refusal.TheVariants.{JournalFull};
-ghost use Rattle.sv_journal.specs.Calls.{full_fault};
+ghost use Rattle.sv_journal.specs.Calls.{journal_refusal};
 
 use crate::live::LiveSnapshot;
 use std::alloc::Global;
@@ -63,7 +63,7 @@ impl Journal {
 
     /// Whether the journal takes no more writes. Takes no memory.
     pub fn is_full(&self) -> bool
-        ensures { full_fault self.now.writes ≡ cond result (Some JournalFull) None }
+        ensures { journal_refusal self.now.writes ≡ cond result (Some JournalFull) None }
     {
         self.writes.len() >= MAX_WRITES
     }

@@ -3,7 +3,7 @@ ghost use Rattle.std.specs.Prelude.{◌≡◌, ◌<◌, ◌≤◌, ◌∷◌, �
 ghost use Rattle.sv_model.specs.declared.records.FileMeta.{FileMeta};
 ghost use Rattle.sv_model.specs.Refusals.{Refuses, RefusesExactly};
 ghost use Rattle.sv_laws.specs.Snapping.{HasLiveCuts};
-ghost use Rattle.sv_journal.specs.Calls.{IsCutAt, IsSnapped, IsUnsnapped, are_live_cuts, is_live_cut, is_live_snapshot, snap_fault, snapshot_fault};
+ghost use Rattle.sv_journal.specs.Calls.{IsCutAt, IsSnapped, IsUnsnapped, are_live_cuts, is_live_cut, is_live_snapshot, snap_refusal, snapshot_refusal};
 
 use crate::journal::{FAMILIES, Journal};
 use crate::live::{LiveSnapshot, place_of};
@@ -20,7 +20,7 @@ impl Journal {
     /// 1,048,576 were made, then as `TooManySnapshots` where 64 are Live; a refusal leaves the journal as it was.
     pub fn snap(&mut self) -> Result<(u32, u64), Refusal>
         ensures made { IfOk result (λ made. IsSnapped self.old made.0 made.1 self.new) }
-        ensures refused { Refuses (snap_fault self.old.snapshots) result }
+        ensures refused { Refuses (snap_refusal self.old.snapshots) result }
         ensures kept { OnErr result (self.new ≡ self.old) }
     {
         if self.snapshots.len() >= MAX_SNAPSHOTS {
@@ -50,7 +50,7 @@ impl Journal {
     /// journal as it was. Takes no memory.
     pub fn unsnap(&mut self, id: u64) -> Result<(), Refusal>
         ensures ended { OnOk result (IsUnsnapped self.old id self.new) }
-        ensures refused { RefusesExactly (snapshot_fault self.old.snapshots id) result }
+        ensures refused { RefusesExactly (snapshot_refusal self.old.snapshots id) result }
         ensures kept { OnErr result (self.new ≡ self.old) }
     {
         let Some(place) = place_of(self.live.as_slice(), id) else {
@@ -67,7 +67,7 @@ impl Journal {
     pub fn cut_at(&self, id: u64, family: FamilyId) -> Result<u64, Refusal>
         requires { family < FAMILIES }
         ensures cut { IfOk result (IsCutAt self.now id family) }
-        ensures refused { RefusesExactly (snapshot_fault self.now.snapshots id) result }
+        ensures refused { RefusesExactly (snapshot_refusal self.now.snapshots id) result }
     {
         let Some(place) = place_of(self.live.as_slice(), id) else {
             return Err(Refusal::NoSnapshot);

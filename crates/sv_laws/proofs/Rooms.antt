@@ -18,12 +18,12 @@ below : (k n : ℕ) → nat_le k n ≡ false → n < k
 below k n h = grind (arith, common_steps)
 
 -- the fault of a registry's `make`, as sv_registry has it
-abbrev pub make_fault : List SuperVersion → Option Refusal
-make_fault supers =
+abbrev pub make_refusal : List SuperVersion → Option Refusal
+make_refusal supers =
     cond (nat_le 1048576 (length supers)) (Some RegisterFull)
     (cond (nat_le 256 (live_count super_live supers)) (Some TooManyLive) None)
 
-pub room-made : (supers : List SuperVersion) (place : ℕ) → make_fault supers ≡ None → place < 256
+pub room-made : (supers : List SuperVersion) (place : ℕ) → make_refusal supers ≡ None → place < 256
     → IsLeastFree super_live (λ s. s.place) supers place → HasRoom supers place
 room-made supers place none within least =
     let f =

@@ -19,11 +19,11 @@ RefusesExactly due (Ok x) = due ≡ None
 RefusesExactly due (Err e) = due ≡ Some e
 
 -- the refusal that a key or a value of this length meets
-abbrev pub key_fault : ℕ → Option Refusal
-key_fault n = cond (nat_le 1 n && nat_le n 64) None (Some (refusal.KeyLength n))
+abbrev pub key_refusal : ℕ → Option Refusal
+key_refusal n = cond (nat_le 1 n && nat_le n 64) None (Some (refusal.KeyLength n))
 
-abbrev pub value_fault : ℕ → Option Refusal
-value_fault n = cond (nat_le n 1024) None (Some (refusal.ValueLength n))
+abbrev pub value_refusal : ℕ → Option Refusal
+value_refusal n = cond (nat_le n 1024) None (Some (refusal.ValueLength n))
 
 -- the first refusal that is due
 abbrev pub first_due : List (Option Refusal) → Option Refusal

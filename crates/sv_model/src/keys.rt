@@ -4,7 +4,7 @@ ghost use Rattle.std.specs.Ordering.{nat_cmp, eq_by_cmp, as_partial_cmp};
 ghost use Rattle.std.specs.Cmp.{partial_order_from_total, partial_equiv_from_equiv, eq_by_cmp_equiv};
 ghost use Rattle.std.specs.Cmp.Lexicographic.{slice_cmp, nat_list_cmp_total};
 ghost use Rattle.std.proofs.Common.{refl};
-ghost use Rattle.sv_model.specs.Refusals.{Refuses, key_fault};
+ghost use Rattle.sv_model.specs.Refusals.{Refuses, key_refusal};
 
 use crate::refusals::Refusal;
 use std::alloc::{AllocError, Global};
@@ -34,7 +34,7 @@ impl Key {
     /// The key of these bytes. Refused as `KeyLength` exactly where they are not 1 to 64.
     pub fn new(alloc: Global, bytes: &[u8]) -> Result<Key, Refusal>
         ensures made { IfOk result (λ key. key ≡ bytes.now) }
-        ensures refused { Refuses (key_fault (length bytes.now)) result }
+        ensures refused { Refuses (key_refusal (length bytes.now)) result }
     {
         if bytes.is_empty() || bytes.len() > GREATEST_KEY {
             return Err(Refusal::KeyLength {

@@ -1,6 +1,6 @@
 // A value, seen by contracts as its bytes.
 ghost use Rattle.std.specs.Prelude.{◌≡◌, ◌≤◌, ℕ, List, IfOk, length};
-ghost use Rattle.sv_model.specs.Refusals.{Refuses, value_fault};
+ghost use Rattle.sv_model.specs.Refusals.{Refuses, value_refusal};
 
 use crate::refusals::Refusal;
 use std::alloc::{AllocError, Global};
@@ -29,7 +29,7 @@ impl Value {
     /// The value of these bytes. Refused as `ValueLength` exactly where they are more than 1,024.
     pub fn new(alloc: Global, bytes: &[u8]) -> Result<Value, Refusal>
         ensures made { IfOk result (λ value. value ≡ bytes.now) }
-        ensures refused { Refuses (value_fault (length bytes.now)) result }
+        ensures refused { Refuses (value_refusal (length bytes.now)) result }
     {
         if bytes.len() > GREATEST_VALUE {
             return Err(Refusal::ValueLength {

@@ -15,7 +15,7 @@ use Rattle.sv_model.specs.Books.{FileRegister, files_of}
 use Rattle.sv_model.specs.Faults.{RoseBy}
 use Rattle.sv_model.specs.Files.{Files}
 use Rattle.sv_plain.specs.declared.parts.Parts.{Parts}
-use Rattle.sv_plain.specs.Due.{flush_fault, fault_of}
+use Rattle.sv_plain.specs.Due.{flush_refusal, fault_of}
 use Rattle.sv_plain.specs.Flushing.{IsFinished, IsLeftBehind, IsNumbered, LeftAs, SettlesAs}
 use Rattle.sv_plain.specs.Held.{Both, Holds}
 use Rattle.sv_plain.specs.Prepared.{Prepared}
@@ -84,7 +84,7 @@ stops old mid new file refusal.OutOfMemory p n h = inr (leaves old mid new file 
 stops old mid new file (refusal.DirFault number) p n h = (h.0 ∙ first_number old mid file p, leaves old mid new file p n h.1)
 stops old mid new file e p n h = leaves old mid new file p n h
 
-pub stopped_err : (old mid new : Parts) (file : FileMeta) (r : Result FileMeta Refusal) → (p : Prepared old mid file) → flush_fault (books_of old) ≡ None → IsNumbered p.outputs.before (books_of new) file → IfErr r (LeftAs (books_of mid) (books_of new) p.outputs.before file) → OnErr r (new.versions ≡ mid.versions) → IfErr r (IsStopped (books_of old) (books_of new))
+pub stopped_err : (old mid new : Parts) (file : FileMeta) (r : Result FileMeta Refusal) → (p : Prepared old mid file) → flush_refusal (books_of old) ≡ None → IsNumbered p.outputs.before (books_of new) file → IfErr r (LeftAs (books_of mid) (books_of new) p.outputs.before file) → OnErr r (new.versions ≡ mid.versions) → IfErr r (IsStopped (books_of old) (books_of new))
 stopped_err old mid new file (Ok f) p none n left same = tt
 stopped_err old mid new file (Err e) p none n left same = record {
   as_due = subst (StopsAs (books_of old) (books_of new) e) (sym none) (stops old mid new file e p n left);

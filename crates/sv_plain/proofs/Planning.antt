@@ -25,7 +25,7 @@ use Rattle.sv_model.specs.Numbers.{captures}
 use Rattle.sv_model.proofs.Basics.{none_some, at_least}
 use Rattle.sv_plain.specs.declared.immutables.Immutable.{Immutable}
 use Rattle.sv_plain.specs.Immutables.{ImmutablesJoin}
-use Rattle.sv_plain.specs.Due.{FlushMoment, flush_fault, has_rows}
+use Rattle.sv_plain.specs.Due.{FlushMoment, flush_refusal, has_rows}
 use Rattle.sv_plain.specs.Stands.{FilesStand, Stands}
 use Rattle.sv_plain.specs.Store.{active_rows, immutable_count, write_count, top_of}
 use Rattle.sv_plain.proofs.Going.{super_itself, memtable_itself, list_itself, version_itself, number_itself, continues_itself, tops_go, families_go}
@@ -127,7 +127,7 @@ both_zero m n e = grind arith
 one_of : (n m : ℕ) → (nat_le 1048576 n || (m == 18446744073709551615)) ≡ true → (1048576 ≤ n) ⊎ (18446744073709551615 ≤ m)
 one_of n m e = grind arith
 
-pub flush_moment : (b : Books) (reach base serial place list version : ℕ) (active : Cell) (its : List Immutable) (e : Refusal) → Stands b reach base serial place list version active its → flush_fault b ≡ Some e → FlushMoment b e
+pub flush_moment : (b : Books) (reach base serial place list version : ℕ) (active : Cell) (its : List Immutable) (e : Refusal) → Stands b reach base serial place list version active its → flush_refusal b ≡ Some e → FlushMoment b e
 flush_moment b reach base serial place list version active its e s h =
     moment_of b _ _ (has_rows b) _ _ _ e
     (λ t. let z = both_zero (active_rows b) (immutable_count b) t in was_flushed b reach base serial place list version active its s z.0 z.1)

@@ -20,7 +20,7 @@ use Rattle.sv_cells.specs.Calls as cells
 use Rattle.sv_registry.specs.Calls as registry
 use Rattle.sv_plain.specs.declared.immutables.Immutable.{Immutable}
 use Rattle.sv_plain.specs.Immutables.{ImmutablesJoin}
-use Rattle.sv_plain.specs.Due.{WriteMoment, stall_fault}
+use Rattle.sv_plain.specs.Due.{WriteMoment, stall_refusal}
 use Rattle.sv_plain.specs.Stands.{Stands}
 use Rattle.sv_plain.specs.Store.{immutable_count, last_files}
 use Rattle.sv_plain.proofs.Joining.{join_count}
@@ -88,7 +88,7 @@ moment_of b false false false false e p q r t h = absurd (none_some e h)
 
 -- what a refusal of a switch that is due says of the books
 pub write_moment : (b : Books) (reach base serial place list version : ℕ) (active : Cell) (its : List Immutable) (e : Refusal) → Stands b reach base serial place list version active its
-    → IsDue (first_due (stall_fault b ∷ cells.memtables_refusal b.memtables ∷ registry.make_refusal b.supers ∷ [])) e → WriteMoment b e
+    → IsDue (first_due (stall_refusal b ∷ cells.memtables_refusal b.memtables ∷ registry.make_refusal b.supers ∷ [])) e → WriteMoment b e
 write_moment b reach base serial place list version active its e s h =
     elim (due_is _ e h) [
       | inl memory ↦ subst (WriteMoment b) (sym memory) tt

@@ -8,7 +8,7 @@ use Rattle.sv_model.specs.Ranges.{reach_of}
 use Rattle.sv_model.specs.Books.{Books}
 use Rattle.sv_cells.specs.Calls.{memtables_refusal}
 use Rattle.sv_registry.specs.Calls.{full_refusal, make_refusal}
-use Rattle.sv_files.specs.Calls.{capture_fault}
+use Rattle.sv_files.specs.Calls.{capture_refusal}
 use Rattle.sv_plain.specs.Store.{active_rows, immutable_count, last_files, write_count}
 
 -- a refusal that is due only in this case
@@ -22,12 +22,12 @@ abbrev pub is_switch_due : Books → Bool
 is_switch_due b = nat_le 1024 (active_rows b)
 
 -- the family has as many immutable memtables as it may have
-abbrev pub stall_fault : Books → Option Refusal
-stall_fault b = cond (nat_le 2 (immutable_count b)) (Some refusal.Stalled) None
+abbrev pub stall_refusal : Books → Option Refusal
+stall_refusal b = cond (nat_le 2 (immutable_count b)) (Some refusal.Stalled) None
 
 -- the refusal that a write meets, in these books
-abbrev pub write_fault : Books → Option Refusal
-write_fault b = only_if (is_switch_due b) (first_due (stall_fault b ∷ memtables_refusal b.memtables ∷ make_refusal b.supers ∷ []))
+abbrev pub write_refusal : Books → Option Refusal
+write_refusal b = only_if (is_switch_due b) (first_due (stall_refusal b ∷ memtables_refusal b.memtables ∷ make_refusal b.supers ∷ []))
 
 -- what a refused write says of the books
 abbrev pub WriteMoment : Books → Refusal → Type 0
@@ -50,24 +50,24 @@ ReadMoment told b e = ⊥
 -- ---- flushes
 
 -- the active memtable has no row, and no immutable memtable waits
-abbrev pub nothing_fault : Books → Option Refusal
-nothing_fault b = cond ((active_rows b == 0) && (immutable_count b == 0)) (Some refusal.NothingToFlush) None
+abbrev pub nothing_refusal : Books → Option Refusal
+nothing_refusal b = cond ((active_rows b == 0) && (immutable_count b == 0)) (Some refusal.NothingToFlush) None
 
 -- the registers of SuperVersions
-abbrev pub all_made_fault : Books → Option Refusal
-all_made_fault b = cond (nat_le 1048576 (length b.supers)) (Some refusal.RegisterFull) None
+abbrev pub all_made_refusal : Books → Option Refusal
+all_made_refusal b = cond (nat_le 1048576 (length b.supers)) (Some refusal.RegisterFull) None
 
-abbrev pub all_live_fault : Books → Option Refusal
-all_live_fault b = full_refusal b.supers
+abbrev pub all_live_refusal : Books → Option Refusal
+all_live_refusal b = full_refusal b.supers
 
 -- a flush switches first where the active memtable has a row
 abbrev pub has_rows : Books → Bool
 has_rows b = nat_lt 0 (active_rows b)
 
 -- the refusal that a flush meets before anything is done, in these books
-abbrev pub flush_fault : Books → Option Refusal
-flush_fault b = first_due (nothing_fault b ∷ capture_fault b.files ∷ only_if (has_rows b) (all_made_fault b)
-    ∷ only_if (has_rows b) (memtables_refusal b.memtables) ∷ only_if (has_rows b) (all_live_fault b) ∷ [])
+abbrev pub flush_refusal : Books → Option Refusal
+flush_refusal b = first_due (nothing_refusal b ∷ capture_refusal b.files ∷ only_if (has_rows b) (all_made_refusal b)
+    ∷ only_if (has_rows b) (memtables_refusal b.memtables) ∷ only_if (has_rows b) (all_live_refusal b) ∷ [])
 
 -- what a refused flush says of the books that it leaves
 abbrev pub FlushMoment : Books → Refusal → Type 0

@@ -9,7 +9,7 @@ use Rattle.sv_model.specs.declared.FileStatus.TheVariants.{Live, Obsolete}
 use Rattle.sv_model.specs.Books.{Books}
 use Rattle.sv_model.specs.Ranges.{reach_of}
 use Rattle.sv_model.specs.Reads.{IsOutput, IsWrite}
-use Rattle.sv_plain.specs.Due.{flush_fault, has_rows}
+use Rattle.sv_plain.specs.Due.{flush_refusal, has_rows}
 use Rattle.sv_plain.specs.Store.{last_files, active_rows, immutable_count, write_count}
 use Rattle.sv_model.specs.Flat.{plain}
 
@@ -60,7 +60,7 @@ StopsAs old new e None = LeavesOutput old new
 
 -- In each case the Version is as it was.
 pub record IsStopped (old new : Books) (e : Refusal) : Type 0 where
-  pub as_due : StopsAs old new e (flush_fault old)
+  pub as_due : StopsAs old new e (flush_refusal old)
   pub versions : new.versions ≡ old.versions
 
 -- A refusal other than want of memory changed nothing.

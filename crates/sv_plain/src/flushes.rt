@@ -5,7 +5,7 @@ ghost use Rattle.sv_plain.specs.Follows.{Follows};
 ghost use Rattle.sv_model.specs.Faults.{RoseBy};
 ghost use Rattle.sv_model.specs.Refusals.{Refuses};
 ghost use Rattle.sv_registry.specs.Calls.{make_refusal};
-ghost use Rattle.sv_plain.specs.Due.{FlushMoment, fault_of, flush_fault};
+ghost use Rattle.sv_plain.specs.Due.{FlushMoment, fault_of, flush_refusal};
 ghost use Rattle.sv_plain.specs.Flushing.{IsFinished, IsNumbered, LeftAs, Outputs, SettlesAs};
 ghost use Rattle.sv_model.specs.HeldFiles.{OthersStay};
 ghost use Rattle.sv_plain.specs.Held.{Both, Holds};
@@ -124,7 +124,7 @@ impl Parts {
     /// Version with that file last.
     pub fn flush<D: Dir>(&mut self, dir: &mut D) -> Result<FileMeta, Refusal>
         requires { Runs self.old }
-        ensures planned { IfOk result (λ _. flush_fault (books_of self.old) ≡ None) }
+        ensures planned { IfOk result (λ _. flush_refusal (books_of self.old) ≡ None) }
         ensures flushed { IfOk result (IsFlushed (books_of self.old) (books_of self.new)) }
         ensures stopped { IfErr result (IsStopped (books_of self.old) (books_of self.new)) }
         ensures moment { IfErr result (FlushMoment (books_of self.new)) }

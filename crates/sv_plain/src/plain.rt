@@ -10,7 +10,7 @@ ghost use Rattle.sv_model.specs.Summaries.{summary_of};
 ghost use Rattle.sv_model.specs.Files.{Files};
 ghost use Rattle.sv_plain.specs.Alone.{IsAlone};
 ghost use Rattle.sv_plain.specs.Closed.{EndsAs, IsClosed};
-ghost use Rattle.sv_plain.specs.Due.{FlushMoment, flush_fault, ReadMoment, WriteMoment, fault_of, is_switch_due, write_fault};
+ghost use Rattle.sv_plain.specs.Due.{FlushMoment, flush_refusal, ReadMoment, WriteMoment, fault_of, is_switch_due, write_refusal};
 ghost use Rattle.sv_model.specs.HeldFiles.{GoneAreAbsent, OthersStay};
 ghost use Rattle.sv_plain.specs.Held.{Both, Holds};
 ghost use Rattle.sv_plain.specs.Settled.{ChangesNothing, IsAfterSwitch, IsFlushed, IsStopped, IsWritten};
@@ -61,7 +61,7 @@ impl Plain {
     /// `RegisterFull` and `TooManyLive`. Want of memory may leave a switch done; any other refusal changes nothing.
     pub fn write(&mut self, key: Key, op: Op) -> Result<u64, Refusal>
         requires { IsOpen self.old }
-        ensures refused { Refuses (write_fault self.old) result }
+        ensures refused { Refuses (write_refusal self.old) result }
         ensures written { IfOk result (λ _. IsWritten self.old self.new key op) }
         ensures stays { is_switch_due self.old ≡ false → IfOk result (λ _. self.new ≡ record self.old { journal = self.new.journal }) }
         ensures switched { is_switch_due self.old ≡ true → IfOk result (λ _. IsAfterSwitch self.old self.new) }
@@ -108,7 +108,7 @@ impl Plain {
     /// be made at the end.
     pub fn flush<D: Dir>(&mut self, dir: &mut D) -> Result<FileMeta, Refusal>
         requires { IsOpen self.old }
-        ensures planned { IfOk result (λ _. flush_fault self.old ≡ None) }
+        ensures planned { IfOk result (λ _. flush_refusal self.old ≡ None) }
         ensures flushed { IfOk result (IsFlushed self.old self.new) }
         ensures stopped { IfErr result (IsStopped self.old self.new) }
         ensures moment { IfErr result (FlushMoment self.new) }

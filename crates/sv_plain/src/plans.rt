@@ -4,8 +4,8 @@ ghost use Rattle.sv_model.specs.declared.Refusal.TheVariants.{RegisterFull};
 ghost use Rattle.sv_plain.specs.Follows.{Follows};
 ghost use Rattle.sv_model.specs.Refusals.{RefusesExactly, first_due};
 ghost use Rattle.sv_cells.specs.Calls.{memtables_refusal};
-ghost use Rattle.sv_files.specs.Calls.{capture_fault};
-ghost use Rattle.sv_plain.specs.Due.{FlushMoment, all_live_fault, all_made_fault, fault_of, flush_fault, has_rows};
+ghost use Rattle.sv_files.specs.Calls.{capture_refusal};
+ghost use Rattle.sv_plain.specs.Due.{FlushMoment, all_live_refusal, all_made_refusal, fault_of, flush_refusal, has_rows};
 ghost use Rattle.sv_plain.specs.Prepared.{Began, IsMemory, Prepared};
 ghost use Rattle.sv_plain.specs.Settled.{IsStopped};
 ghost use Rattle.sv_plain.specs.Store.{active_rows, immutable_count};
@@ -31,7 +31,7 @@ fn file_over(number: u64, from: u64, to: u64) -> FileMeta
 impl Parts {
     // Whether no serial is left.
     fn all_made(&self) -> bool
-        ensures { all_made_fault (books_of self.now) ≡ cond result (Some RegisterFull) None }
+        ensures { all_made_refusal (books_of self.now) ≡ cond result (Some RegisterFull) None }
     {
         self.registry.all_made()
     }
@@ -39,7 +39,7 @@ impl Parts {
     // Tests what the switch of a flush may meet.
     fn plan_switch(&self) -> Result<(), Refusal>
         ensures faultless { fault_of result ≡ 0 }
-        ensures refused { RefusesExactly (first_due (all_made_fault (books_of self.now) ∷ memtables_refusal self.now.memtables ∷ all_live_fault (books_of self.now) ∷ [])) result }
+        ensures refused { RefusesExactly (first_due (all_made_refusal (books_of self.now) ∷ memtables_refusal self.now.memtables ∷ all_live_refusal (books_of self.now) ∷ [])) result }
     {
         if self.all_made() {
             return Err(Refusal::RegisterFull);
@@ -57,7 +57,7 @@ impl Parts {
     fn plan_flush(&self) -> Result<(), Refusal>
         requires { Runs self.now }
         ensures faultless { fault_of result ≡ 0 }
-        ensures refused { RefusesExactly (flush_fault (books_of self.now)) result }
+        ensures refused { RefusesExactly (flush_refusal (books_of self.now)) result }
     {
         if self.has_nothing() {
             return Err(Refusal::NothingToFlush);
@@ -74,7 +74,7 @@ impl Parts {
     // Switches where the active memtable has a row. Once the plan was not refused, only memory can be wanted.
     fn switch_rows(&mut self) -> Result<(), Refusal>
         requires runs { Runs self.old }
-        requires may { flush_fault (books_of self.old) ≡ None }
+        requires may { flush_refusal (books_of self.old) ≡ None }
         ensures runs { Runs self.new }
         ensures journal { self.new.journal ≡ self.old.journal }
         ensures files { self.new.files ≡ self.old.files }
@@ -99,7 +99,7 @@ impl Parts {
     fn begin_flush(&mut self) -> Result<FileMeta, Refusal>
         requires runs { Runs self.old }
         requires waits { 0 < immutable_count (books_of self.old) }
-        requires may { capture_fault self.old.files ≡ None }
+        requires may { capture_refusal self.old.files ≡ None }
         ensures began { IfOk result (Began self.old self.new) }
         ensures memory { IfErr result IsMemory }
         ensures kept { OnErr result (books_of self.new ≡ books_of self.old) }
@@ -122,7 +122,7 @@ impl Parts {
     /// file. A refusal as planned changes nothing; want of memory may leave the switch done.
     pub fn prepare_flush(&mut self) -> Result<FileMeta, Refusal>
         requires { Runs self.old }
-        ensures planned { IfOk result (λ _. flush_fault (books_of self.old) ≡ None) }
+        ensures planned { IfOk result (λ _. flush_refusal (books_of self.old) ≡ None) }
         ensures prepared { IfOk result (Prepared self.old self.new) }
         ensures faultless { fault_of result ≡ 0 }
         ensures stopped { IfErr result (IsStopped (books_of self.old) (books_of self.new)) }
@@ -141,7 +141,7 @@ impl Parts {
     // The same, where the plan was not refused.
     fn start_flush(&mut self) -> Result<FileMeta, Refusal>
         requires runs { Runs self.old }
-        requires may { flush_fault (books_of self.old) ≡ None }
+        requires may { flush_refusal (books_of self.old) ≡ None }
         ensures prepared { IfOk result (Prepared self.old self.new) }
         ensures memory { IfErr result IsMemory }
         ensures faultless { fault_of result ≡ 0 }

@@ -1,7 +1,7 @@
 // What a command asks of the open store before anything is done.
 ghost use Rattle.std.specs.Prelude.{◌≡◌, None, Some, cond};
 ghost use Rattle.sv_model.specs.declared.Refusal.TheVariants.{NothingToFlush, Stalled};
-ghost use Rattle.sv_plain.specs.Due.{has_rows, is_switch_due, nothing_fault, stall_fault};
+ghost use Rattle.sv_plain.specs.Due.{has_rows, is_switch_due, nothing_refusal, stall_refusal};
 ghost use Rattle.sv_plain.specs.Views.{Runs, books_of};
 
 use crate::parts::Parts;
@@ -19,7 +19,7 @@ impl Parts {
     /// Whether a write that is to switch is refused: as many immutable memtables wait as may wait.
     pub fn is_stalled(&self) -> bool
         requires { Runs self.now }
-        ensures { stall_fault (books_of self.now) ≡ cond result (Some Stalled) None }
+        ensures { stall_refusal (books_of self.now) ≡ cond result (Some Stalled) None }
     {
         self.immutables.len() >= Options::FIRST.max_immutable as usize
     }
@@ -35,7 +35,7 @@ impl Parts {
     /// Whether no memtable has a row.
     pub fn has_nothing(&self) -> bool
         requires { Runs self.now }
-        ensures { nothing_fault (books_of self.now) ≡ cond result (Some NothingToFlush) None }
+        ensures { nothing_refusal (books_of self.now) ≡ cond result (Some NothingToFlush) None }
     {
         self.active.len() as usize + self.immutables.len() == 0
     }

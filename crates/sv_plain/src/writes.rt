@@ -2,7 +2,7 @@
 ghost use Rattle.std.specs.Prelude.{◌≡◌, ◌<◌, false, true, IfOk, IfErr, OnOk, OnErr};
 ghost use Rattle.sv_plain.specs.Follows.{Follows};
 ghost use Rattle.sv_model.specs.Refusals.{Refuses};
-ghost use Rattle.sv_plain.specs.Due.{WriteMoment, is_switch_due, write_fault};
+ghost use Rattle.sv_plain.specs.Due.{WriteMoment, is_switch_due, write_refusal};
 ghost use Rattle.sv_plain.specs.Settled.{ChangesNothing, IsAfterSwitch, IsWritten};
 ghost use Rattle.sv_plain.specs.Store.{active_rows, write_count};
 ghost use Rattle.sv_plain.specs.Switched.{IsSwitched};
@@ -15,7 +15,7 @@ impl Parts {
     // Switches where a write is to switch first, unless as many immutable memtables wait as may wait.
     fn make_room(&mut self) -> Result<(), Refusal>
         requires { Runs self.old }
-        ensures refused { Refuses (write_fault (books_of self.old)) result }
+        ensures refused { Refuses (write_refusal (books_of self.old)) result }
         ensures room { OnOk result (active_rows (books_of self.new) < 65536) }
         ensures stays { is_switch_due (books_of self.old) ≡ false → books_of self.new ≡ books_of self.old }
         ensures switched { is_switch_due (books_of self.old) ≡ true → OnOk result (IsSwitched (books_of self.old) (books_of self.new)) }
@@ -67,7 +67,7 @@ impl Parts {
     /// it switches first. Want of memory may leave a switch done; any other refusal changes nothing.
     pub fn write(&mut self, key: Key, op: Op) -> Result<u64, Refusal>
         requires { Runs self.old }
-        ensures refused { Refuses (write_fault (books_of self.old)) result }
+        ensures refused { Refuses (write_refusal (books_of self.old)) result }
         ensures written { IfOk result (λ _. IsWritten (books_of self.old) (books_of self.new) key op) }
         ensures stays { is_switch_due (books_of self.old) ≡ false → IfOk result (λ _. books_of self.new ≡ record (books_of self.old) { journal = self.new.journal.items }) }
         ensures switched { is_switch_due (books_of self.old) ≡ true → IfOk result (λ _. IsAfterSwitch (books_of self.old) (books_of self.new)) }

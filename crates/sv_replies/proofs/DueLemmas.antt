@@ -6,7 +6,7 @@ use Rattle.sv_model.specs.declared.refusals.Refusal.TheVariants as refusal
 use Rattle.sv_model.specs.declared.settings.OptionName.{OptionName}
 use Rattle.sv_model.specs.Books.{Books}
 use Rattle.sv_model.specs.Families.{IsOwn, IsStanding}
-use Rattle.sv_model.specs.Refusals.{key_fault, value_fault}
+use Rattle.sv_model.specs.Refusals.{key_refusal, value_refusal}
 use Rattle.sv_model.specs.Registers.{Has}
 use Rattle.sv_laws.proofs.Items.{some}
 use Rattle.sv_script.specs.declared.commands.Command.{Command}
@@ -32,10 +32,10 @@ first-here d ds cause is = ap (λ z. first_of (z ∷ ds)) is
 
 -- ---- each item
 
-pub key-free : (key : List ℕ) → key_fault (length key) ≡ None → key_cause key ≡ None
+pub key-free : (key : List ℕ) → key_refusal (length key) ≡ None → key_cause key ≡ None
 key-free key none = ap (option_map refuses) none
 
-pub value-free : (value : List ℕ) → value_fault (length value) ≡ None → value_cause value ≡ None
+pub value-free : (value : List ℕ) → value_refusal (length value) ≡ None → value_cause value ≡ None
 value-free value none = ap (option_map refuses) none
 
 module _ (k : Known) (name : List ℕ) where
@@ -55,7 +55,7 @@ module _ (k : Known) (name : List ℕ) where
 
   -- ---- what is due of each command, after the tests of its words and its handle
 
-  pub put-due : (key value : List ℕ) (f : ℕ) → key_fault (length key) ≡ None → value_fault (length value) ≡ None
+  pub put-due : (key value : List ℕ) (f : ℕ) → key_refusal (length key) ≡ None → value_refusal (length value) ≡ None
       → k.handles name ≡ Some f
       → due k (command.Put name key value) ≡ first_of (dropped_cause k name ∷ [])
   put-due key value f at in_value has =
@@ -63,18 +63,18 @@ module _ (k : Known) (name : List ℕ) where
       ∙ first-next (value_cause value) (handle_cause k name ∷ dropped_cause k name ∷ []) (value-free value in_value)
       ∙ first-next (handle_cause k name) (dropped_cause k name ∷ []) (handle-free f has)
 
-  pub delete-due : (key : List ℕ) (f : ℕ) → key_fault (length key) ≡ None → k.handles name ≡ Some f
+  pub delete-due : (key : List ℕ) (f : ℕ) → key_refusal (length key) ≡ None → k.handles name ≡ Some f
       → due k (command.Delete name key) ≡ first_of (dropped_cause k name ∷ [])
   delete-due key f at has =
       first-next (key_cause key) (handle_cause k name ∷ dropped_cause k name ∷ []) (key-free key at)
       ∙ first-next (handle_cause k name) (dropped_cause k name ∷ []) (handle-free f has)
 
-  pub get-free : (key : List ℕ) (f : ℕ) → key_fault (length key) ≡ None → k.handles name ≡ Some f
+  pub get-free : (key : List ℕ) (f : ℕ) → key_refusal (length key) ≡ None → k.handles name ≡ Some f
       → due k (command.Get name key) ≡ None
   get-free key f at has =
       first-next (key_cause key) (handle_cause k name ∷ []) (key-free key at) ∙ first-next (handle_cause k name) [] (handle-free f has)
 
-  pub gets-free : (n : ℕ) (key : List ℕ) (f : ℕ) → key_fault (length key) ≡ None → k.handles name ≡ Some f
+  pub gets-free : (n : ℕ) (key : List ℕ) (f : ℕ) → key_refusal (length key) ≡ None → k.handles name ≡ Some f
       → due k (command.Gets n name key) ≡ None
   gets-free n key f at has =
       first-next (key_cause key) (handle_cause k name ∷ []) (key-free key at) ∙ first-next (handle_cause k name) [] (handle-free f has)

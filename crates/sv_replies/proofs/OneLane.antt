@@ -11,7 +11,7 @@ use Rattle.sv_script.specs.declared.commands.Command.{Command}
 use Rattle.sv_script.specs.declared.commands.Command.TheVariants as command
 use Rattle.sv_script.specs.declared.replies.Reply.{Reply}
 use Rattle.sv_script.specs.declared.replies.Reply.TheVariants as reply
-use Rattle.sv_replies.specs.Due.{cause_where, due, first_of, no_handle, of_fault}
+use Rattle.sv_replies.specs.Due.{cause_where, due, first_of, no_handle, of_refusal}
 use Rattle.sv_replies.specs.Known.{Known, known_after}
 use Rattle.sv_replies.specs.LanesFit.{IsOfLanes, LanesFit, accepted, ended_of, missing_in, purged_of}
 use Rattle.sv_replies.specs.ReplyFits.{Refused, RepliesFit, ReplyFits}
@@ -34,7 +34,7 @@ at_gets : (told : Bool) (b : Books) (k : Known) (m : ℕ) (name key : List ℕ)
 at_gets told b k m name key = by (nat_le 1 (length key) && nat_le (length key) 64) (k.handles name)
   where
     by : (ok : Bool) (o : Option ℕ)
-        → Refused (only told) b k (command.Gets m name key) refusal.NoSnapshot (first_of (of_fault (cond ok None (Some (refusal.KeyLength (length key)))) ∷ cause_where (is_none o) (no_handle name) ∷ []))
+        → Refused (only told) b k (command.Gets m name key) refusal.NoSnapshot (first_of (of_refusal (cond ok None (Some (refusal.KeyLength (length key)))) ∷ cause_where (is_none o) (no_handle name) ∷ []))
         → NoSuch (only told) b k m
     by false o h = absurd (cc)
     by true None h = absurd h

@@ -7,7 +7,7 @@ use Rattle.sv_model.specs.declared.refusals.Refusal.{Refusal}
 use Rattle.sv_model.specs.declared.refusals.Refusal.TheVariants as refusal
 use Rattle.sv_model.specs.Books.{Books}
 use Rattle.sv_model.specs.Families.{default_name, greatest_of}
-use Rattle.sv_model.specs.Refusals.{key_fault, value_fault}
+use Rattle.sv_model.specs.Refusals.{key_refusal, value_refusal}
 use Rattle.sv_script.specs.declared.commands.Command.{Command}
 use Rattle.sv_script.specs.declared.commands.Command.TheVariants as command
 use Rattle.sv_replies.specs.Known.{Known, Pinned}
@@ -28,14 +28,14 @@ abbrev pub cause_where : Bool → Cause → Option Cause
 cause_where true cause = Some cause
 cause_where false cause = None
 
-abbrev pub of_fault : Option Refusal → Option Cause
-of_fault fault = option_map refuses fault
+abbrev pub of_refusal : Option Refusal → Option Cause
+of_refusal fault = option_map refuses fault
 
 abbrev pub key_cause : List ℕ → Option Cause
-key_cause key = of_fault (key_fault (length key))
+key_cause key = of_refusal (key_refusal (length key))
 
 abbrev pub value_cause : List ℕ → Option Cause
-value_cause value = of_fault (value_fault (length value))
+value_cause value = of_refusal (value_refusal (length value))
 
 abbrev pub default_cause : List ℕ → Option Cause
 default_cause name = cause_where (bytes_eq name default_name) (refuses refusal.IsDefault)

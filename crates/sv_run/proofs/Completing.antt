@@ -39,8 +39,8 @@ rose_at_close ended left told before now is clean rose =
     let all = subst (λ z. RoseBy (told + faults_at_close z left) before now) is rose in
     omega (arith, some, all)
 
-closed_fault : (i : Input) (d : Directory) (done : Done) → IsDoneAs end.DirFault i d done → Rose d.before d.now
-closed_fault i d done h =
+closed_refusal : (i : Input) (d : Directory) (done : Done) → IsDoneAs end.DirFault i d done → Rose d.before d.now
+closed_refusal i d done h =
     let ran = h.is.ran.ran in
     rose_at_close done.end (left_of done) _ d.before d.now h.close ran.clean.1 ran.faults
 
@@ -56,5 +56,5 @@ completes i d o (Some done) status.ScriptTooLong e are script holds reads asks w
 completes i d o None status.ReadFault e are script holds reads asks writes = absurd (reads e.0.1.0)
 completes i d o (Some done) status.ReadFault e are script holds reads asks writes = absurd (e.0.1)
 completes i d o None status.DirFault e are script holds reads asks writes = absurd (asks e.0.1.rose)
-completes i d o (Some done) status.DirFault e are script holds reads asks writes = absurd (asks (closed_fault i d done e.0.1))
+completes i d o (Some done) status.DirFault e are script holds reads asks writes = absurd (asks (closed_refusal i d done e.0.1))
 completes i d o stands status.WriteFault e are script holds reads asks writes = absurd (writes e.rose)

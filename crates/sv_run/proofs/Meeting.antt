@@ -68,12 +68,12 @@ delete_met s new family key e ready none left journal m =
 -- ---- calls that ask the directory
 
 -- what a call said of the directory is what its reply says
-same_fault : (T : Type 0) (e : Refusal) → fault_of {T = T} (Err e) ≡ fault_by (reply.Refused e)
-same_fault T (refusal.DirFault number) = refl
-same_fault T e = refl
+same_refusal : (T : Type 0) (e : Refusal) → fault_of {T = T} (Err e) ≡ fault_by (reply.Refused e)
+same_refusal T (refusal.DirFault number) = refl
+same_refusal T e = refl
 
 rose_same : (T : Type 0) (e : Refusal) (before now : ℕ) → RoseBy (fault_of {T = T} (Err e)) before now → RoseBy (fault_by (reply.Refused e)) before now
-rose_same T e before now rose = subst (λ n. RoseBy n before now) (same_fault T e) rose
+rose_same T e before now rose = subst (λ n. RoseBy n before now) (same_refusal T e) rose
 
 read_met : (told : Bool) (now later : Books) (e : Refusal) → Follows now later → ReadMoment told now e → (e ≡ refusal.OutOfMemory) ⊎ ReadMet told later 0 e
 read_met told now later (refusal.DirFault number) after m = inr (captured-later now later 0 number after m)

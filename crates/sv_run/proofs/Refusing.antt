@@ -9,7 +9,7 @@ use Rattle.sv_model.specs.Faults.{RoseBy}
 use Rattle.sv_model.specs.Journal.{change_of}
 use Rattle.sv_model.specs.Books.{Books}
 use Rattle.sv_plain.specs.Follows.{Follows}
-use Rattle.sv_model.specs.Refusals.{IsDue, first_due, key_fault, value_fault}
+use Rattle.sv_model.specs.Refusals.{IsDue, first_due, key_refusal, value_refusal}
 use Rattle.sv_script.specs.declared.Command.{Command}
 use Rattle.sv_script.specs.declared.Command.TheVariants as command
 use Rattle.sv_script.specs.declared.Reply.TheVariants as reply
@@ -92,13 +92,13 @@ calm_handle (Some family) = refl
 calm_family : (family : List ℕ) → faults_due (first_due (handle_refusal (handle_of [] family) ∷ [])) ≡ 0
 calm_family family = calm_first (handle_refusal (handle_of [] family)) [] (calm_handle (handle_of [] family)) refl
 
-calm_key : (family key : List ℕ) → faults_due (first_due (key_fault (length key) ∷ handle_refusal (handle_of [] family) ∷ [])) ≡ 0
-calm_key family key = calm_first (key_fault (length key)) (handle_refusal (handle_of [] family) ∷ []) (calm_cond _ (refusal.KeyLength (length key)) refl) (calm_family family)
+calm_key : (family key : List ℕ) → faults_due (first_due (key_refusal (length key) ∷ handle_refusal (handle_of [] family) ∷ [])) ≡ 0
+calm_key family key = calm_first (key_refusal (length key)) (handle_refusal (handle_of [] family) ∷ []) (calm_cond _ (refusal.KeyLength (length key)) refl) (calm_family family)
 
 calm_put : (family key value : List ℕ) → faults_due (due [] (command.Put family key value)) ≡ 0
 calm_put family key value =
-    calm_first (key_fault (length key)) (value_fault (length value) ∷ handle_refusal (handle_of [] family) ∷ []) (calm_cond _ (refusal.KeyLength (length key)) refl)
-    (calm_first (value_fault (length value)) (handle_refusal (handle_of [] family) ∷ []) (calm_cond _ (refusal.ValueLength (length value)) refl) (calm_family family))
+    calm_first (key_refusal (length key)) (value_refusal (length value) ∷ handle_refusal (handle_of [] family) ∷ []) (calm_cond _ (refusal.KeyLength (length key)) refl)
+    (calm_first (value_refusal (length value)) (handle_refusal (handle_of [] family) ∷ []) (calm_cond _ (refusal.ValueLength (length value)) refl) (calm_family family))
 
 pub put_refused : (s : State) (family key value : List ℕ) (e : Refusal) → IsReady s → IsDue (due [] (command.Put family key value)) e → Steps s s (command.Put family key value) (reply.Refused e)
 put_refused s family key value e ready is = due_steps s (command.Put family key value) e ready (calm_put family key value) is (λ earlier. refl)

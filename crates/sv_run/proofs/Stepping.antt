@@ -14,7 +14,7 @@ use Rattle.sv_model.specs.Registers.{entry}
 use Rattle.sv_model.specs.Books.{Books}
 use Rattle.sv_plain.specs.Follows.{Follows}
 use Rattle.sv_model.specs.Reads.{IsWrite, Serves, IsOutput}
-use Rattle.sv_model.specs.Refusals.{first_due, key_fault, value_fault}
+use Rattle.sv_model.specs.Refusals.{first_due, key_refusal, value_refusal}
 use Rattle.sv_model.proofs.Refusing.{none_due}
 use Rattle.sv_model.proofs.Registers.{entry-new}
 use Rattle.sv_model.specs.Files.{Files}
@@ -85,14 +85,14 @@ kept_others s new = both-same (OthersStay new.files.numbers) (others-same new.fi
 pub handle_due : (family : List ℕ) → first_due (handle_refusal (handle_of [] family) ∷ []) ≡ None → handle_refusal (handle_of [] family) ≡ None
 handle_due family none = (none_due (handle_refusal (handle_of [] family)) [] none).0
 
-pub key_due : (family key : List ℕ) → first_due (key_fault (length key) ∷ handle_refusal (handle_of [] family) ∷ []) ≡ None → handle_refusal (handle_of [] family) ≡ None
-key_due family key none = handle_due family (none_due (key_fault (length key)) (handle_refusal (handle_of [] family) ∷ []) none).1
+pub key_due : (family key : List ℕ) → first_due (key_refusal (length key) ∷ handle_refusal (handle_of [] family) ∷ []) ≡ None → handle_refusal (handle_of [] family) ≡ None
+key_due family key none = handle_due family (none_due (key_refusal (length key)) (handle_refusal (handle_of [] family) ∷ []) none).1
 
 pub put_due : (family key value : List ℕ) → due [] (command.Put family key value) ≡ None → handle_refusal (handle_of [] family) ≡ None
 put_due family key value none =
     handle_due family
-    (none_due (value_fault (length value)) (handle_refusal (handle_of [] family) ∷ [])
-    (none_due (key_fault (length key)) (value_fault (length value) ∷ handle_refusal (handle_of [] family) ∷ []) none).1).1
+    (none_due (value_refusal (length value)) (handle_refusal (handle_of [] family) ∷ [])
+    (none_due (key_refusal (length key)) (value_refusal (length value) ∷ handle_refusal (handle_of [] family) ∷ []) none).1).1
 
 pub put_steps : (s : State) (new : Books) (family key value : List ℕ) (n : ℕ) → IsReady s → due [] (command.Put family key value) ≡ None → Left s.books new → IsWritten s.books new key (op.Put value) → n ≡ write_count new → Steps s (state_of new s.files s.faults) (command.Put family key value) (reply.Put n)
 put_steps s new family key value n ready none left is number =

@@ -1,6 +1,6 @@
 // The answer of the one lane to a command.
 ghost use Rattle.std.specs.Prelude.{◌≡◌, ℕ, Option, ◌∷◌, [], IfOk, length};
-ghost use Rattle.sv_model.specs.Refusals.{Refuses, RefusesExactly, first_due, key_fault};
+ghost use Rattle.sv_model.specs.Refusals.{Refuses, RefusesExactly, first_due, key_refusal};
 ghost use Rattle.sv_model.specs.Files.{Files};
 ghost use Rattle.sv_script.specs.Answered.{handle_of};
 ghost use Rattle.sv_script.specs.Built.{IsBuilt};
@@ -28,7 +28,7 @@ fn find_family(family: &Name) -> Result<(), Refusal>
 
 // The key, where it is one and the lane has a handle of the family.
 fn key_in(alloc: Global, family: &Name, key: &[u8]) -> Result<Key, Refusal>
-    ensures refused { Refuses (first_due (key_fault (length key.now) ∷ handle_refusal (handle_of [] family.now) ∷ [])) result }
+    ensures refused { Refuses (first_due (key_refusal (length key.now) ∷ handle_refusal (handle_of [] family.now) ∷ [])) result }
     ensures key { IfOk result (λ made. made ≡ key.now) }
 {
     let key = Key::new(alloc, key)?;

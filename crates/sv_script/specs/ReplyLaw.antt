@@ -10,7 +10,7 @@ use Rattle.sv_model.specs.Books.{Books}
 use Rattle.sv_model.specs.Reads.{IsWrittenAt, LooksAt, IsOutput}
 use Rattle.sv_model.specs.Moments.{WasStalled, WasFlushed, WasCapturedFor}
 use Rattle.sv_model.specs.Moments.{WereManyMemtables, WereManyLive, WereAllMade, WereAllNumbered}
-use Rattle.sv_model.specs.Refusals.{first_due, key_fault, value_fault}
+use Rattle.sv_model.specs.Refusals.{first_due, key_refusal, value_refusal}
 use Rattle.sv_script.specs.declared.commands.Command.{Command}
 use Rattle.sv_script.specs.declared.commands.Command.TheVariants as command
 use Rattle.sv_script.specs.declared.replies.Reply.{Reply}
@@ -28,11 +28,11 @@ handle_refusal None = Some refusal.NoFamily
 -- replies make due.
 abbrev pub due : List Answered → Command → Option Refusal
 due earlier (command.Put family key value) =
-    first_due (key_fault (length key) ∷ value_fault (length value) ∷ handle_refusal (handle_of earlier family) ∷ [])
+    first_due (key_refusal (length key) ∷ value_refusal (length value) ∷ handle_refusal (handle_of earlier family) ∷ [])
 due earlier (command.Delete family key) =
-    first_due (key_fault (length key) ∷ handle_refusal (handle_of earlier family) ∷ [])
+    first_due (key_refusal (length key) ∷ handle_refusal (handle_of earlier family) ∷ [])
 due earlier (command.Get family key) =
-    first_due (key_fault (length key) ∷ handle_refusal (handle_of earlier family) ∷ [])
+    first_due (key_refusal (length key) ∷ handle_refusal (handle_of earlier family) ∷ [])
 due earlier (command.Flush family) =
     first_due (handle_refusal (handle_of earlier family) ∷ [])
 due earlier command = None

@@ -11,7 +11,7 @@ use Rattle.sv_model.specs.Books.{Books, FileRegister}
 use Rattle.sv_model.specs.Numbers.{captures}
 use Rattle.sv_model.specs.Ranges.{reach_of}
 use Rattle.sv_model.specs.Steady.{Sound}
-use Rattle.sv_files.specs.Calls.{Settles, capture_fault, captured_for}
+use Rattle.sv_files.specs.Calls.{Settles, capture_refusal, captured_for}
 use Rattle.sv_laws.specs.Captures.{IsFileCaptured, IsMergePlanned}
 use Rattle.sv_laws.specs.Changes.{flush_begun, given_up, merge_planned}
 use Rattle.sv_laws.specs.Snapping.{HasLiveCuts}
@@ -28,7 +28,7 @@ either-false true q e h = absurd (cc)
 either-false false true e h = absurd (cc)
 either-false false false e h = (refl, refl)
 
-pub room-left : (F : FileRegister) → F.next ≤ 18446744073709551615 → capture_fault F ≡ None → (captures F.numbers < 1048576) × (F.next < 18446744073709551615)
+pub room-left : (F : FileRegister) → F.next ≤ 18446744073709551615 → capture_refusal F ≡ None → (captures F.numbers < 1048576) × (F.next < 18446744073709551615)
 room-left F most h =
     let e = either-false (nat_le 1048576 (captures F.numbers)) (F.next == 18446744073709551615) RegisterFull h in
     (below 1048576 (captures F.numbers) e.0, least F.next most e.1)
@@ -36,7 +36,7 @@ room-left F most h =
     least : (n : ℕ) → n ≤ 18446744073709551615 → (n == 18446744073709551615) ≡ false → n < 18446744073709551615
     least n le q = grind arith
 
-pub is-captured : (a : Books) (k : Sound a) (f : ℕ) (file : FileMeta) (F : FileRegister) (M : List FileMeta) → slice_get a.files.captured f ≡ Some None → capture_fault a.files ≡ None
+pub is-captured : (a : Books) (k : Sound a) (f : ℕ) (file : FileMeta) (F : FileRegister) (M : List FileMeta) → slice_get a.files.captured f ≡ Some None → capture_refusal a.files ≡ None
     → file.number ≡ a.files.next → HasLiveCuts a.journal a.snapshots f file → F ≡ captured_for a.files f → M ≡ a.metas ++ file ∷ [] → IsFileCaptured a (record a { files = F; metas = M }) f file
 is-captured a k f file F M idle none number cuts files metas =
     let r = room-left a.files k.lawful.numbers.most none in

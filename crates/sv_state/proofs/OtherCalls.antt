@@ -14,7 +14,7 @@ use Rattle.sv_model.specs.Steady.{Sound}
 use Rattle.sv_family.specs.Calls.{IsChanged, as_dropped, with_handle}
 use Rattle.sv_journal.specs.Seen.{JournalSeen}
 use Rattle.sv_journal.specs.Calls as journal
-use Rattle.sv_journal.specs.Calls.{snap_fault}
+use Rattle.sv_journal.specs.Calls.{snap_refusal}
 use Rattle.sv_laws.specs.Changes.{dropped, opened, snapped, unsnapped}
 use Rattle.sv_laws.proofs.Kept.{sound-kept}
 use Rattle.sv_model.proofs.Refusing.{none_due}
@@ -27,7 +27,7 @@ abbrev pub with_journal : Books → JournalSeen → Books
 with_journal a j = record a { journal = j.writes; snapshots = j.snapshots }
 
 module _ (a : Books) (j : JournalSeen) (k : Sound (with_journal a j)) (new : JournalSeen) where
-  pub snap-changes : (r : Result (ℕ × ℕ) Refusal) → IfOk r (λ m. journal.IsSnapped j m.0 m.1 new) → Refuses (snap_fault j.snapshots) r → OnErr r (new ≡ j)
+  pub snap-changes : (r : Result (ℕ × ℕ) Refusal) → IfOk r (λ m. journal.IsSnapped j m.0 m.1 new) → Refuses (snap_refusal j.snapshots) r → OnErr r (new ≡ j)
       → Sound (with_journal a new) × After (with_journal a j) (with_journal a new)
   snap-changes (Err e) h f g = same-books (with_journal a j) (with_journal a new) k (ap (with_journal a) g)
   snap-changes (Ok m) h f g =

@@ -12,13 +12,13 @@ use Rattle.sv_model.specs.Families.{IsOwn}
 use Rattle.sv_model.specs.Journal.{of_family}
 use Rattle.sv_model.specs.Refusals.{IsDue}
 use Rattle.sv_model.specs.Steady.{Sound}
-use Rattle.sv_family.specs.Refused.{change_fault}
+use Rattle.sv_family.specs.Refused.{change_refusal}
 use Rattle.sv_laws.proofs.Items.{some}
 use Rattle.sv_laws.proofs.OpenFamilies.{ends-at, says}
 use Rattle.sv_objects.specs.declared.bodies.Body.{Body}
 use Rattle.sv_state.specs.declared.planning.Plan.TheVariants.{Add, Switch}
 use Rattle.sv_state.specs.Currents.{HasCurrentAt}
-use Rattle.sv_state.specs.Planning.{compact_fault, IsCellIf, IsPlanOf, MeantAt, Planned, active_rows, is_switch_due}
+use Rattle.sv_state.specs.Planning.{compact_refusal, IsCellIf, IsPlanOf, MeantAt, Planned, active_rows, is_switch_due}
 use Rattle.sv_state.specs.Refs.{IsBodyOf}
 use Rattle.sv_state.proofs.Finishes.{list-paired}
 use Rattle.sv_state.proofs.OptionSets.{own-it, own-open}
@@ -35,15 +35,15 @@ only-memory d due e h w = absurd (none_some (sym h ∙ w))
     none_some : {e : Refusal} → None ≡ Some e → ⊥
     none_some h = absurd (cc)
 
-pub told-so : {T : Type 0} (b : Books) (lane : ℕ) (name : List ℕ) (fault : MeantAt b lane name → Option Refusal) (is : MeantAt b lane name → T → Type 0) (e : Refusal) → change_fault b.families lane name ≡ Some e
+pub told-so : {T : Type 0} (b : Books) (lane : ℕ) (name : List ℕ) (fault : MeantAt b lane name → Option Refusal) (is : MeantAt b lane name → T → Type 0) (e : Refusal) → change_refusal b.families lane name ≡ Some e
     → Planned {T = T} b lane name fault is (Err e)
 told-so b lane name fault is e h = inl (e, h, refl)
 
 -- a compaction is refused
-pub merge-refused : (a b : Books) → a ≡ b → (lane : ℕ) (name : List ℕ) (is : MeantAt b lane name → FileMeta → Type 0) (m : MeantAt a lane name) (e : Refusal) → IsDue (compact_fault a m) e
-    → Planned {T = FileMeta} b lane name (compact_fault b) is (Err e)
+pub merge-refused : (a b : Books) → a ≡ b → (lane : ℕ) (name : List ℕ) (is : MeantAt b lane name → FileMeta → Type 0) (m : MeantAt a lane name) (e : Refusal) → IsDue (compact_refusal a m) e
+    → Planned {T = FileMeta} b lane name (compact_refusal b) is (Err e)
 merge-refused a b q lane name is m e h =
-    let t : (n : MeantAt b lane name) × IsDue (compact_fault b n) e = subst (λ (z : Books). (n : MeantAt z lane name) × IsDue (compact_fault z n) e) q (m, h) in
+    let t : (n : MeantAt b lane name) × IsDue (compact_refusal b n) e = subst (λ (z : Books). (n : MeantAt z lane name) × IsDue (compact_refusal z n) e) q (m, h) in
     inr (t.0, t.1, tt)
 
 module _ (a : Books) (k : Sound a) (lane : ℕ) (name : List ℕ) (f : ℕ) (x : Family) (at : slice_get a.families f ≡ Some x) (own : IsOwn lane name x) (stands : x.dropped ≡ false) (cur : HasCurrentAt a f) where

@@ -17,9 +17,9 @@ use Rattle.sv_objects.specs.Shown.{shown}
 use Rattle.sv_state.specs.Currents.{HasCurrentAt}
 
 -- the refusal of what ends for a dropped family
-abbrev pub finish_fault : Option Family → Option Refusal
-finish_fault (Some f) = if f.dropped then Some Dropped else None
-finish_fault None = None
+abbrev pub finish_refusal : Option Family → Option Refusal
+finish_refusal (Some f) = if f.dropped then Some Dropped else None
+finish_refusal None = None
 
 -- The number of the file is captured for the family, and this is what it covers.
 pub record CanFinish (b : Books) (family : ℕ) (file : FileMeta) : Type 0 where

@@ -16,9 +16,9 @@ use Rattle.sv_model.specs.Journal.{borne_by}
 use Rattle.sv_model.specs.Refusals.{Refuses, first_due}
 use Rattle.sv_model.specs.Registers.{entry}
 use Rattle.sv_cells.specs.Calls.{memtables_refusal}
-use Rattle.sv_family.specs.Refused.{change_fault}
-use Rattle.sv_files.specs.Calls.{capture_fault}
-use Rattle.sv_journal.specs.Calls.{are_live_cuts, full_fault}
+use Rattle.sv_family.specs.Refused.{change_refusal}
+use Rattle.sv_files.specs.Calls.{capture_refusal}
+use Rattle.sv_journal.specs.Calls.{are_live_cuts, journal_refusal}
 use Rattle.sv_laws.specs.Installs.{IsOpen}
 use Rattle.sv_objects.specs.Makings.{IsCellOf}
 use Rattle.sv_registry.specs.Calls.{full_refusal, make_refusal}
@@ -52,19 +52,19 @@ only_if due fault = cond due fault None
 abbrev pub is_switch_due : ℕ → Options → Bool
 is_switch_due rows o = nat_le o.memtable_rows rows
 
-abbrev pub stall_fault : ℕ → ℕ → Option Refusal
-stall_fault members most = cond (nat_le most members) (Some refusal.Stalled) None
+abbrev pub stall_refusal : ℕ → ℕ → Option Refusal
+stall_refusal members most = cond (nat_le most members) (Some refusal.Stalled) None
 
 abbrev pub switch_due : List SuperVersion → List Memtable → ℕ → ℕ → Option Refusal
-switch_due supers memtables members most = first_due (stall_fault members most ∷ memtables_refusal memtables ∷ make_refusal supers ∷ [])
+switch_due supers memtables members most = first_due (stall_refusal members most ∷ memtables_refusal memtables ∷ make_refusal supers ∷ [])
 
 abbrev pub write_due : List Write → List SuperVersion → List Memtable → ℕ → ℕ → Options → Option Refusal
 write_due journal supers memtables rows members o =
-    first_due (full_fault journal ∷ only_if (is_switch_due rows o) (switch_due supers memtables members o.max_immutable) ∷ [])
+    first_due (journal_refusal journal ∷ only_if (is_switch_due rows o) (switch_due supers memtables members o.max_immutable) ∷ [])
 
 -- the refusal that a write meets
-abbrev pub write_fault : (b : Books) {lane : ℕ} {name : List ℕ} → MeantAt b lane name → Option Refusal
-write_fault b m = write_due b.journal b.supers b.memtables (active_rows b m) (length m.list.members) m.is_open.family.options
+abbrev pub write_refusal : (b : Books) {lane : ℕ} {name : List ℕ} → MeantAt b lane name → Option Refusal
+write_refusal b m = write_due b.journal b.supers b.memtables (active_rows b m) (length m.list.members) m.is_open.family.options
 
 -- The row is to be added to the active memtable in this cell; a switch comes first just where it is due.
 abbrev pub IsPlanOf : (b : Books) {lane : ℕ} {name : List ℕ} → MeantAt b lane name → Plan → Type 0
@@ -77,30 +77,30 @@ IsPlanOf b m (Switch family cell) =
 -- current meets.
 abbrev pub Planned : {T : Type 0} (b : Books) (lane : ℕ) (name : List ℕ) → (MeantAt b lane name → Option Refusal) → (MeantAt b lane name → T → Type 0) → Result T Refusal → Type 0
 Planned b lane name fault is r =
-    ((e : Refusal) × (change_fault b.families lane name ≡ Some e) × (r ≡ Err e))
+    ((e : Refusal) × (change_refusal b.families lane name ≡ Some e) × (r ≡ Err e))
     ⊎ ((m : MeantAt b lane name) × Refuses (fault m) r × IfOk r (is m))
 
 -- ---- flushes
 
-abbrev pub busy_fault : Option (Option ℕ) → Option Refusal
-busy_fault (Some (Some n)) = Some (refusal.Busy n)
-busy_fault (Some None) = None
-busy_fault None = None
+abbrev pub busy_refusal : Option (Option ℕ) → Option Refusal
+busy_refusal (Some (Some n)) = Some (refusal.Busy n)
+busy_refusal (Some None) = None
+busy_refusal None = None
 
 -- the active memtable has no row and the list no member
-abbrev pub nothing_fault : ℕ → ℕ → Option Refusal
-nothing_fault rows members = cond ((rows == 0) && (members == 0)) (Some refusal.NothingToFlush) None
+abbrev pub nothing_refusal : ℕ → ℕ → Option Refusal
+nothing_refusal rows members = cond ((rows == 0) && (members == 0)) (Some refusal.NothingToFlush) None
 
-abbrev pub all_made_fault : List SuperVersion → Option Refusal
-all_made_fault supers = cond (nat_le 1048576 (length supers)) (Some refusal.RegisterFull) None
+abbrev pub all_made_refusal : List SuperVersion → Option Refusal
+all_made_refusal supers = cond (nat_le 1048576 (length supers)) (Some refusal.RegisterFull) None
 
 abbrev pub flush_due : FileRegister → ℕ → List SuperVersion → List Memtable → ℕ → ℕ → Option Refusal
 flush_due files family supers memtables rows members =
-    first_due (busy_fault (slice_get files.captured family) ∷ nothing_fault rows members ∷ capture_fault files
-    ∷ only_if (nat_lt 0 rows) (first_due (all_made_fault supers ∷ memtables_refusal memtables ∷ full_refusal supers ∷ [])) ∷ [])
+    first_due (busy_refusal (slice_get files.captured family) ∷ nothing_refusal rows members ∷ capture_refusal files
+    ∷ only_if (nat_lt 0 rows) (first_due (all_made_refusal supers ∷ memtables_refusal memtables ∷ full_refusal supers ∷ [])) ∷ [])
 
-abbrev pub flush_fault : (b : Books) {lane : ℕ} {name : List ℕ} → MeantAt b lane name → Option Refusal
-flush_fault b m = flush_due b.files m.family b.supers b.memtables (active_rows b m) (length m.list.members)
+abbrev pub flush_refusal : (b : Books) {lane : ℕ} {name : List ℕ} → MeantAt b lane name → Option Refusal
+flush_refusal b m = flush_due b.files m.family b.supers b.memtables (active_rows b m) (length m.list.members)
 
 -- a switch comes first where the active memtable, which is in this cell, has a row
 abbrev pub IsCellIf : List Memtable → ℕ → Bool → Option ℕ → Type 0
@@ -123,7 +123,7 @@ compacts_nothing journal snapshots family (f ∷ (g ∷ files)) = false
 
 abbrev pub compact_due : FileRegister → List Write → List Snapshot → ℕ → List FileMeta → Option Refusal
 compact_due files journal snapshots family of =
-    first_due (busy_fault (slice_get files.captured family) ∷ only_if (compacts_nothing journal snapshots family of) (Some refusal.NothingToCompact) ∷ capture_fault files ∷ [])
+    first_due (busy_refusal (slice_get files.captured family) ∷ only_if (compacts_nothing journal snapshots family of) (Some refusal.NothingToCompact) ∷ capture_refusal files ∷ [])
 
-abbrev pub compact_fault : (b : Books) {lane : ℕ} {name : List ℕ} → MeantAt b lane name → Option Refusal
-compact_fault b m = compact_due b.files b.journal b.snapshots m.family m.version.files
+abbrev pub compact_refusal : (b : Books) {lane : ℕ} {name : List ℕ} → MeantAt b lane name → Option Refusal
+compact_refusal b m = compact_due b.files b.journal b.snapshots m.family m.version.files

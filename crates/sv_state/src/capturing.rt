@@ -3,7 +3,7 @@ ghost use Rattle.std.specs.Prelude.{◌≡◌, ◌<◌, ℕ, true, false, IfOk, 
 ghost use Rattle.sv_model.specs.declared.records.FileMeta.{FileMeta};
 ghost use Rattle.sv_model.specs.Ranges.{reach_of};
 ghost use Rattle.sv_model.specs.Refusals.{Refuses};
-ghost use Rattle.sv_files.specs.Calls.{capture_fault};
+ghost use Rattle.sv_files.specs.Calls.{capture_refusal};
 ghost use Rattle.sv_laws.specs.Captures.{IsFlushBegun, IsGivenUp};
 ghost use Rattle.sv_state.specs.Capturing.{CanBegin, IsUnderWay};
 ghost use Rattle.sv_state.specs.Follows.{Follows};
@@ -19,7 +19,7 @@ impl State {
     pub fn flush_begin(&mut self, family: FamilyId) -> Result<FileMeta, Refusal>
         requires { CanBegin self.old.books family }
         ensures begun { IfOk result (λ file. IsFlushBegun self.old.books self.new.books family file) }
-        ensures refused { Refuses (capture_fault self.old.books.files) result }
+        ensures refused { Refuses (capture_refusal self.old.books.files) result }
         ensures kept { OnErr result (self.new ≡ self.old) }
         ensures spare { self.new.spare ≡ self.old.spare }
         ensures follows { Follows self.old.books self.new.books }

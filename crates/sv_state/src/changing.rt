@@ -4,7 +4,7 @@ ghost use Rattle.sv_model.specs.Refusals.{Refuses, first_due};
 ghost use Rattle.sv_cells.specs.Calls.{memtables_refusal};
 ghost use Rattle.sv_registry.specs.Calls.{make_refusal};
 ghost use Rattle.sv_family.specs.Calls.{new_family};
-ghost use Rattle.sv_family.specs.Refused.{create_fault, set_fault};
+ghost use Rattle.sv_family.specs.Refused.{create_refusal, set_refusal};
 ghost use Rattle.sv_laws.specs.NewCurrents.{IsFamilyMade};
 ghost use Rattle.sv_state.specs.Changing.{IsSet};
 ghost use Rattle.sv_state.specs.Currents.{OwnHaveCurrents};
@@ -32,7 +32,7 @@ impl State {
         requires current { OwnHaveCurrents self.old.books lane name.now }
         ensures set { IfOk result (λ install. IsSet self.old.books self.new.books lane name.now option value install.family) }
         ensures tells { IfOk result (λ install. Tells self.old.books self.new.books install.family install) }
-        ensures refused { Refuses (first_due (set_fault self.old.books.families lane name.now option value ∷ make_refusal self.old.books.supers ∷ [])) result }
+        ensures refused { Refuses (first_due (set_refusal self.old.books.families lane name.now option value ∷ make_refusal self.old.books.supers ∷ [])) result }
         ensures kept { OnErr result (self.new ≡ self.old) }
         ensures spare { self.new.spare ≡ self.old.spare }
         ensures follows { Follows self.old.books self.new.books }
@@ -69,7 +69,7 @@ impl State {
         requires { lane < 32 }
         ensures made { IfOk result (λ _. IsFamilyMade self.old.books self.new.books (new_family lane name.now)) }
         ensures tells { IfOk result (TellsSwitch self.old.books self.new.books (length self.old.books.families)) }
-        ensures refused { Refuses (first_due (create_fault self.old.books.families lane name.now ∷ memtables_refusal self.old.books.memtables ∷ make_refusal self.old.books.supers ∷ [])) result }
+        ensures refused { Refuses (first_due (create_refusal self.old.books.families lane name.now ∷ memtables_refusal self.old.books.memtables ∷ make_refusal self.old.books.supers ∷ [])) result }
         ensures kept { OnErr result (self.new ≡ self.old) }
         ensures spare { self.new.spare ≡ self.old.spare }
         ensures follows { Follows self.old.books self.new.books }

@@ -3,7 +3,7 @@ ghost use Rattle.std.specs.Prelude.{◌≡◌, ◌<◌, ◌↔◌, IfOk, IsTrue,
 ghost use Rattle.std.specs.Option.{option_map};
 ghost use Rattle.sv_model.specs.Refusals.{RefusesExactly};
 ghost use Rattle.sv_laws.specs.Families.{IsCurrentEnded};
-ghost use Rattle.sv_family.specs.Refused.{release_fault};
+ghost use Rattle.sv_family.specs.Refused.{release_refusal};
 ghost use Rattle.sv_state.specs.Currents.{CanEnd, OwnHaveCurrents};
 ghost use Rattle.sv_state.specs.Follows.{Follows};
 ghost use Rattle.sv_state.specs.Gone.{IsFree, IsLastOr, IsReleasedAs, SuperGoes};
@@ -22,7 +22,7 @@ impl State {
         requires lane { lane < 32 }
         requires current { OwnHaveCurrents self.old.books lane name.now }
         ensures released { IfOk result (λ install. IsReleasedAs self.old.books self.new.books lane name.now (option_map (λ i. i.family) install)) }
-        ensures refused { RefusesExactly (release_fault self.old.books.families lane name.now) result }
+        ensures refused { RefusesExactly (release_refusal self.old.books.families lane name.now) result }
         ensures kept { OnErr result (self.new ≡ self.old) }
         ensures spare { self.new.spare ≡ self.old.spare }
         ensures follows { Follows self.old.books self.new.books }

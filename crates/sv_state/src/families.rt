@@ -3,7 +3,7 @@ ghost use Rattle.std.specs.Prelude.{◌≡◌, ◌<◌, IfOk, OnErr, IsSomeAnd, 
 ghost use Rattle.sv_model.specs.Families.{IsOwn};
 ghost use Rattle.sv_model.specs.Refusals.{RefusesExactly};
 ghost use Rattle.sv_laws.specs.Families.{IsDropped, IsOpened};
-ghost use Rattle.sv_family.specs.Refused.{drop_fault, find_fault, open_fault};
+ghost use Rattle.sv_family.specs.Refused.{drop_refusal, find_refusal, open_refusal};
 ghost use Rattle.sv_state.specs.Follows.{Follows};
 
 use crate::state::State;
@@ -15,7 +15,7 @@ impl State {
     pub fn find(&self, lane: u8, name: &Name) -> Result<FamilyId, Refusal>
         requires { lane < 32 }
         ensures found { IfOk result (λ id. IsSomeAnd (slice_get self.now.books.families id) (IsOwn lane name.now)) }
-        ensures refused { RefusesExactly (find_fault self.now.books.families lane name.now) result }
+        ensures refused { RefusesExactly (find_refusal self.now.books.families lane name.now) result }
     {
         self.families.find(lane, name)
     }
@@ -25,7 +25,7 @@ impl State {
     pub fn open_family(&mut self, lane: u8, name: &Name) -> Result<FamilyId, Refusal>
         requires { lane < 32 }
         ensures opened { IfOk result (λ id. IsOpened self.old.books self.new.books id lane) }
-        ensures refused { RefusesExactly (open_fault self.old.books.families lane name.now) result }
+        ensures refused { RefusesExactly (open_refusal self.old.books.families lane name.now) result }
         ensures kept { OnErr result (self.new ≡ self.old) }
         ensures spare { self.new.spare ≡ self.old.spare }
         ensures follows { Follows self.old.books self.new.books }
@@ -39,7 +39,7 @@ impl State {
         requires { lane < 32 }
         ensures dropped { IfOk result (λ id. IsDropped self.old.books self.new.books id lane) }
         ensures own { IfOk result (λ id. IsSomeAnd (slice_get self.old.books.families id) (IsOwn lane name.now)) }
-        ensures refused { RefusesExactly (drop_fault self.old.books.families lane name.now) result }
+        ensures refused { RefusesExactly (drop_refusal self.old.books.families lane name.now) result }
         ensures kept { OnErr result (self.new ≡ self.old) }
         ensures spare { self.new.spare ≡ self.old.spare }
         ensures follows { Follows self.old.books self.new.books }

@@ -10,7 +10,7 @@ ghost use Rattle.sv_model.specs.Registers.{Has, entry};
 ghost use Rattle.sv_registry.specs.Calls.{make_refusal};
 ghost use Rattle.sv_laws.specs.Captures.{IsGivenUp};
 ghost use Rattle.sv_laws.specs.NewCurrents.{IsCompacted, IsFlushed};
-ghost use Rattle.sv_state.specs.Finishing.{BodyCompacted, BodyFlushed, CanFinish, HasFront, finish_fault};
+ghost use Rattle.sv_state.specs.Finishing.{BodyCompacted, BodyFlushed, CanFinish, HasFront, finish_refusal};
 ghost use Rattle.sv_state.specs.Follows.{Follows};
 ghost use Rattle.sv_state.specs.Writing.{Tells};
 
@@ -33,7 +33,7 @@ impl State {
         ensures flushed { IfOk result (λ _. IsFlushed self.old.books self.new.books family file) }
         ensures tells { IfOk result (Tells self.old.books self.new.books family) }
         ensures given_up { OnErr result (IsGivenUp self.old.books self.new.books family file.number) }
-        ensures refused { Refuses (first_due (finish_fault (slice_get self.old.books.families family) ∷ make_refusal self.old.books.supers ∷ [])) result }
+        ensures refused { Refuses (first_due (finish_refusal (slice_get self.old.books.families family) ∷ make_refusal self.old.books.supers ∷ [])) result }
         ensures spare { self.new.spare ≡ self.old.spare }
         ensures follows { Follows self.old.books self.new.books }
     {
@@ -70,7 +70,7 @@ impl State {
         ensures compacted { IfOk result (λ _. IsCompacted self.old.books self.new.books family file) }
         ensures tells { IfOk result (Tells self.old.books self.new.books family) }
         ensures given_up { OnErr result (IsGivenUp self.old.books self.new.books family file.number) }
-        ensures refused { Refuses (first_due (finish_fault (slice_get self.old.books.families family) ∷ make_refusal self.old.books.supers ∷ [])) result }
+        ensures refused { Refuses (first_due (finish_refusal (slice_get self.old.books.families family) ∷ make_refusal self.old.books.supers ∷ [])) result }
         ensures spare { self.new.spare ≡ self.old.spare }
         ensures follows { Follows self.old.books self.new.books }
     {

@@ -3,7 +3,7 @@ ghost use Rattle.std.specs.Prelude.{◌≡◌, ◌<◌, ◌+◌, ◌-◌, ℕ, I
 ghost use Rattle.sv_model.specs.declared.records.FileStatus.TheVariants as status;
 ghost use Rattle.sv_model.specs.Numbers.{AreInOrder, IsReady, IsRegistered, MarksOnly};
 ghost use Rattle.sv_model.specs.Refusals.{Refuses, RefusesExactly};
-ghost use Rattle.sv_files.specs.Calls.{IsFound, IsScanned, IsTaken, MayBeTaken, disabled, hold_fault, ungrabbed, unhold_fault, with_hold};
+ghost use Rattle.sv_files.specs.Calls.{IsFound, IsScanned, IsTaken, MayBeTaken, disabled, hold_refusal, ungrabbed, unhold_refusal, with_hold};
 ghost use Rattle.sv_state.specs.Follows.{Follows, OnlyFiles};
 
 use crate::state::State;
@@ -29,7 +29,7 @@ impl State {
     pub fn hold(&mut self, lane: u8) -> Result<u32, Refusal>
         requires { lane < 32 }
         ensures held { IfOk result (λ count. (count ≡ slice_index self.old.books.files.holds lane + 1) × (self.new.books.files ≡ with_hold self.old.books.files lane count)) }
-        ensures refused { RefusesExactly (hold_fault (slice_index self.old.books.files.holds lane)) result }
+        ensures refused { RefusesExactly (hold_refusal (slice_index self.old.books.files.holds lane)) result }
         ensures kept { OnErr result (self.new ≡ self.old) }
         ensures rest { OnlyFiles self.old self.new }
         ensures follows { Follows self.old.books self.new.books }
@@ -44,7 +44,7 @@ impl State {
     pub fn unhold(&mut self, lane: u8) -> Result<u32, Refusal>
         requires { lane < 32 }
         ensures ended { IfOk result (λ count. (count + 1 ≡ slice_index self.old.books.files.holds lane) × (self.new.books.files ≡ with_hold self.old.books.files lane count)) }
-        ensures refused { RefusesExactly (unhold_fault (slice_index self.old.books.files.holds lane)) result }
+        ensures refused { RefusesExactly (unhold_refusal (slice_index self.old.books.files.holds lane)) result }
         ensures kept { OnErr result (self.new ≡ self.old) }
         ensures rest { OnlyFiles self.old self.new }
         ensures follows { Follows self.old.books self.new.books }

@@ -1,11 +1,11 @@
 // The plan of a compaction, which captures the number of its file.
 ghost use Rattle.std.specs.Prelude.{◌≡◌, ◌<◌, ◌≤◌, [], ℕ, None, Some, OnOk, OnErr, length, slice_get};
 ghost use Rattle.sv_model.specs.Refusals.{RefusesExactly};
-ghost use Rattle.sv_files.specs.Calls.{capture_fault};
+ghost use Rattle.sv_files.specs.Calls.{capture_refusal};
 ghost use Rattle.sv_laws.specs.Captures.{IsMergePlanned};
 ghost use Rattle.sv_state.specs.Currents.{OwnHaveCurrents};
 ghost use Rattle.sv_state.specs.Follows.{Follows};
-ghost use Rattle.sv_state.specs.Planning.{Planned, compact_due, compact_fault, compacts_nothing};
+ghost use Rattle.sv_state.specs.Planning.{Planned, compact_due, compact_refusal, compacts_nothing};
 
 use crate::capturing::{file_over, reach};
 use crate::installs::body_at;
@@ -21,7 +21,7 @@ impl State {
     pub fn compact_plan(&mut self, lane: u8, name: &Name) -> Result<FileMeta, Refusal>
         requires lane { lane < 32 }
         requires current { OwnHaveCurrents self.old.books lane name.now }
-        ensures planned { Planned self.old.books lane name.now (compact_fault self.old.books) (λ m file. IsMergePlanned self.old.books self.new.books m.family file) result }
+        ensures planned { Planned self.old.books lane name.now (compact_refusal self.old.books) (λ m file. IsMergePlanned self.old.books self.new.books m.family file) result }
         ensures kept { OnErr result (self.new ≡ self.old) }
         ensures spare { self.new.spare ≡ self.old.spare }
         ensures follows { Follows self.old.books self.new.books }
@@ -62,7 +62,7 @@ fn due_compaction(
     ensures refused { RefusesExactly (compact_due numbers.now journal.now.writes journal.now.snapshots family files.now) result }
     ensures idle { OnOk result (slice_get numbers.now.captured family ≡ Some None) }
     ensures some { OnOk result (0 < length files.now) }
-    ensures may { OnOk result (capture_fault numbers.now ≡ None) }
+    ensures may { OnOk result (capture_refusal numbers.now ≡ None) }
 {
     if let Some(number) = numbers.busy(family) {
         return Err(Refusal::Busy { number: number.0 });

@@ -2,7 +2,7 @@
 ghost use Rattle.std.specs.Prelude.{◌≡◌, ◌<◌, ◌≤◌, ◌-◌, ◌∷◌, [], ℕ, Some, None, cond, nat_lt, IfOk, OnOk, slice_get, length};
 ghost use Rattle.sv_model.specs.Refusals.{RefusesExactly};
 ghost use Rattle.sv_state.specs.Currents.{OwnHaveCurrents};
-ghost use Rattle.sv_state.specs.Planning.{IsFlushPlan, IsPlanOf, Planned, flush_due, flush_fault, is_switch_due, switch_due, write_due, write_fault};
+ghost use Rattle.sv_state.specs.Planning.{IsFlushPlan, IsPlanOf, Planned, flush_due, flush_refusal, is_switch_due, switch_due, write_due, write_refusal};
 ghost use Rattle.sv_state.specs.declared.planning.Plan.TheVariants.{Add, Switch};
 
 use crate::installs::body_at;
@@ -35,7 +35,7 @@ impl State {
     pub fn write_plan(&mut self, lane: u8, name: &Name) -> Result<Plan, Refusal>
         requires lane { lane < 32 }
         requires current { OwnHaveCurrents self.old.books lane name.now }
-        ensures planned { Planned self.old.books lane name.now (write_fault self.old.books) (IsPlanOf self.old.books) result }
+        ensures planned { Planned self.old.books lane name.now (write_refusal self.old.books) (IsPlanOf self.old.books) result }
         ensures books { self.new.books ≡ self.old.books }
         ensures room { OnOk result (0 < self.new.spare) }
         ensures more { self.old.spare ≤ self.new.spare }
@@ -65,7 +65,7 @@ impl State {
     pub fn flush_plan(&self, lane: u8, name: &Name) -> Result<FlushPlan, Refusal>
         requires lane { lane < 32 }
         requires current { OwnHaveCurrents self.now.books lane name.now }
-        ensures { Planned self.now.books lane name.now (flush_fault self.now.books) (IsFlushPlan self.now.books) result }
+        ensures { Planned self.now.books lane name.now (flush_refusal self.now.books) (IsFlushPlan self.now.books) result }
     {
         let family = match self.families.find_undropped(lane, name) {
             Ok(family) => family,

@@ -4,7 +4,7 @@ ghost use Rattle.std.specs.Option.{option_map};
 ghost use Rattle.sv_model.specs.declared.records.Top.{Top};
 ghost use Rattle.sv_model.specs.Lists.{total};
 ghost use Rattle.sv_model.specs.Refusals.{RefusesExactly};
-ghost use Rattle.sv_family.specs.Refused.{find_fault};
+ghost use Rattle.sv_family.specs.Refused.{find_refusal};
 ghost use Rattle.sv_model.specs.Books.{files_of};
 ghost use Rattle.sv_state.specs.Currents.{HasCurrentAt, StandsAt, kept_of};
 ghost use Rattle.sv_state.specs.Refs.{IsRefOf};

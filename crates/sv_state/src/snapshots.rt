@@ -5,7 +5,7 @@ ghost use Rattle.sv_model.specs.Refusals.{Refuses, RefusesExactly};
 ghost use Rattle.sv_model.specs.Registers.{entry};
 ghost use Rattle.sv_model.specs.Snapshots.{cut_of};
 ghost use Rattle.sv_laws.specs.Snapping.{IsSnapped};
-ghost use Rattle.sv_journal.specs.Calls.{snap_fault, snapshot_fault};
+ghost use Rattle.sv_journal.specs.Calls.{snap_refusal, snapshot_refusal};
 ghost use Rattle.sv_state.specs.Follows.{Follows};
 ghost use Rattle.sv_state.specs.Taken.{IsCut, IsEnded};
 
@@ -17,7 +17,7 @@ impl State {
     /// 1,048,576 were made, then as `TooManySnapshots` where 64 are Live.
     pub fn snap(&mut self) -> Result<(u32, u64), Refusal>
         ensures made { IfOk result (λ made. IsSnapped self.old.books self.new.books × (made.0 ≡ length self.old.books.snapshots + 1) × (made.1 ≡ length self.old.books.journal)) }
-        ensures refused { Refuses (snap_fault self.old.books.snapshots) result }
+        ensures refused { Refuses (snap_refusal self.old.books.snapshots) result }
         ensures kept { OnErr result (self.new ≡ self.old) }
         ensures spare { self.new.spare ≡ self.old.spare }
         ensures follows { Follows self.old.books self.new.books }
@@ -28,7 +28,7 @@ impl State {
     /// Ends a Live snapshot. Refused as `NoSnapshot` exactly where the number is that of none. Takes no memory.
     pub fn unsnap(&mut self, id: u64) -> Result<(), Refusal>
         ensures ended { OnOk result (IsEnded self.old.books id self.new.books) }
-        ensures refused { RefusesExactly (snapshot_fault self.old.books.snapshots id) result }
+        ensures refused { RefusesExactly (snapshot_refusal self.old.books.snapshots id) result }
         ensures kept { OnErr result (self.new ≡ self.old) }
         ensures spare { self.new.spare ≡ self.old.spare }
         ensures follows { Follows self.old.books self.new.books }
@@ -41,7 +41,7 @@ impl State {
     pub fn cut_at(&self, id: u64, family: FamilyId) -> Result<u64, Refusal>
         requires { family < 16 }
         ensures cut { IfOk result (IsCut self.now.books id family) }
-        ensures refused { RefusesExactly (snapshot_fault self.now.books.snapshots id) result }
+        ensures refused { RefusesExactly (snapshot_refusal self.now.books.snapshots id) result }
     {
         self.journal.cut_at(id, family)
     }

@@ -1,7 +1,7 @@
 // The holds of lanes. While one stands, nothing is handed out for removal.
 ghost use Rattle.std.specs.Prelude.{◌≡◌, ◌<◌, ◌+◌, ◌-◌, IfOk, OnErr, length, sum, slice_index};
 ghost use Rattle.sv_model.specs.Refusals.{RefusesExactly};
-ghost use Rattle.sv_files.specs.Calls.{hold_fault, unhold_fault, with_hold};
+ghost use Rattle.sv_files.specs.Calls.{hold_refusal, unhold_refusal, with_hold};
 
 use super::{FileBook, MAX_HOLDS};
 use sv_model::Refusal;
@@ -27,7 +27,7 @@ impl FileBook {
         requires { lane < 32 }
         ensures held { IfOk result (λ count. (count ≡ slice_index self.old.holds lane + 1)
             × (self.new ≡ with_hold self.old lane count)) }
-        ensures refused { RefusesExactly (hold_fault (slice_index self.old.holds lane)) result }
+        ensures refused { RefusesExactly (hold_refusal (slice_index self.old.holds lane)) result }
         ensures kept { OnErr result (self.new ≡ self.old) }
     {
         let count = self.holds[lane as usize];
@@ -44,7 +44,7 @@ impl FileBook {
         requires { lane < 32 }
         ensures ended { IfOk result (λ count. (count + 1 ≡ slice_index self.old.holds lane)
             × (self.new ≡ with_hold self.old lane count)) }
-        ensures refused { RefusesExactly (unhold_fault (slice_index self.old.holds lane)) result }
+        ensures refused { RefusesExactly (unhold_refusal (slice_index self.old.holds lane)) result }
         ensures kept { OnErr result (self.new ≡ self.old) }
     {
         let count = self.holds[lane as usize];

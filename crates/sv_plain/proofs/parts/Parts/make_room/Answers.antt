@@ -5,7 +5,7 @@ use Rattle.sv_model.specs.Refusals.{first_due}
 use Rattle.sv_model.proofs.Refusing.{is_due-next}
 use Rattle.sv_cells.specs.Calls.{memtables_refusal}
 use Rattle.sv_registry.specs.Calls.{make_refusal}
-use Rattle.sv_plain.specs.Due.{WriteMoment, stall_fault}
+use Rattle.sv_plain.specs.Due.{WriteMoment, stall_refusal}
 use Rattle.sv_plain.specs.Views.{books_of}
 use Rattle.sv_plain.proofs.Going.{after_same}
 use Rattle.sv_plain.proofs.Refused.{write_moment}
@@ -20,7 +20,7 @@ pub returns-in-Err-clause-moment : goal.returns-in-Err-clause-moment
 returns-in-Err-clause-moment c =
     subst (λ b. WriteMoment b c.in-Err.refusal) (sym c.in-Err.ensures.kept)
     (write_moment (books_of c.args.self.now) _ _ _ _ _ _ _ _ c.in-Err.refusal c.requires.stands
-    (is_due-next (stall_fault (books_of c.args.self.now)) (memtables_refusal c.args.self.now.memtables ∷ make_refusal c.args.self.now.registry ∷ []) c.in-Err.refusal
+    (is_due-next (stall_refusal (books_of c.args.self.now)) (memtables_refusal c.args.self.now.memtables ∷ make_refusal c.args.self.now.registry ∷ []) c.in-Err.refusal
     (c.is_stalled.ensures ∙ ap (λ b. cond b (Some Stalled) None) c.if-is_stalled.false) c.in-Err.ensures.refused))
 
 pub returns-in-Err-clause-after : goal.returns-in-Err-clause-after

@@ -18,10 +18,10 @@ use Rattle.sv_model.specs.declared.records.FileMeta.{FileMeta}
 use Rattle.sv_model.specs.declared.refusals.Refusal.TheVariants.{OutOfMemory}
 use Rattle.sv_model.specs.Books.{FileRegister}
 use Rattle.sv_model.specs.Ranges.{reach_of}
-use Rattle.sv_files.specs.Calls.{capture_fault}
+use Rattle.sv_files.specs.Calls.{capture_refusal}
 use Rattle.sv_laws.specs.Captures.{IsMergePlanned}
 use Rattle.sv_state.specs.Follows.{Follows}
-use Rattle.sv_state.specs.Planning.{compact_due, compact_fault}
+use Rattle.sv_state.specs.Planning.{compact_due, compact_refusal}
 use Rattle.sv_state.proofs.Calls.{follows, same-books}
 use Rattle.sv_state.proofs.Captures.{is-captured, is-merge-planned, merge-law}
 use Rattle.sv_state.proofs.Stays.{keeps-state}
@@ -92,8 +92,8 @@ returns-in-Err-due_compaction-clause-planned c =
     let old : Body = c.body_at-body.result.now in
     let w : IsBodyOf a it.descriptor old = subst (IsBodyOf a it.descriptor) (sym at) (body-of a cur.serial ref.0.pack ref.0.body.value it opening.current.has ref.2) in
     let m : MeantAt a lane name = meant a k lane name f x.0 x.1 x.2.own x.2.stands cur in
-    let due_is : compact_due a.files a.journal a.snapshots f c.as_slice-files.result.now ≡ compact_fault a m = ap (compact_due a.files a.journal a.snapshots f) (c.as_slice-files.ensures ∙ files-are a k lane name f x.0 x.1 x.2.own x.2.stands cur old w) in
-    merge-refused a c.args.self.now.books (ap (λ (z : StateSeen). z.books) c.self.view_is) lane name (λ n g. Unit {0}) m c.in-Err-due_compaction.refusal (due-exactly (compact_fault a m) c.in-Err-due_compaction.refusal (sym due_is ∙ c.in-Err-due_compaction.ensures.refused))
+    let due_is : compact_due a.files a.journal a.snapshots f c.as_slice-files.result.now ≡ compact_refusal a m = ap (compact_due a.files a.journal a.snapshots f) (c.as_slice-files.ensures ∙ files-are a k lane name f x.0 x.1 x.2.own x.2.stands cur old w) in
+    merge-refused a c.args.self.now.books (ap (λ (z : StateSeen). z.books) c.self.view_is) lane name (λ n g. Unit {0}) m c.in-Err-due_compaction.refusal (due-exactly (compact_refusal a m) c.in-Err-due_compaction.refusal (sym due_is ∙ c.in-Err-due_compaction.ensures.refused))
 
 pub returns-in_default-clause-planned : goal.returns-in_default-clause-planned
 returns-in_default-clause-planned c =
@@ -112,7 +112,7 @@ returns-in_default-clause-planned c =
     let old : Body = c.body_at-body.result.now in
     let w : IsBodyOf a it.descriptor old = subst (IsBodyOf a it.descriptor) (sym at) (body-of a cur.serial ref.0.pack ref.0.body.value it opening.current.has ref.2) in
     let m : MeantAt a lane name = meant a k lane name f x.0 x.1 x.2.own x.2.stands cur in
-    let due_is : compact_due a.files a.journal a.snapshots f c.as_slice-files.result.now ≡ compact_fault a m = ap (compact_due a.files a.journal a.snapshots f) (c.as_slice-files.ensures ∙ files-are a k lane name f x.0 x.1 x.2.own x.2.stands cur old w) in
+    let due_is : compact_due a.files a.journal a.snapshots f c.as_slice-files.result.now ≡ compact_refusal a m = ap (compact_due a.files a.journal a.snapshots f) (c.as_slice-files.ensures ∙ files-are a k lane name f x.0 x.1 x.2.own x.2.stands cur old w) in
     merge-refused a c.args.self.now.books (ap (λ (z : StateSeen). z.books) c.self.view_is) lane name (λ n g. Unit {0}) m OutOfMemory tt
 
 pub returns-in_default-clause-follows : goal.returns-in_default-clause-follows
@@ -138,8 +138,8 @@ returns-in-Err-capture-clause-planned c =
     let old : Body = c.body_at-body.result.now in
     let w : IsBodyOf a it.descriptor old = subst (IsBodyOf a it.descriptor) (sym at) (body-of a cur.serial ref.0.pack ref.0.body.value it opening.current.has ref.2) in
     let m : MeantAt a lane name = meant a k lane name f x.0 x.1 x.2.own x.2.stands cur in
-    let due_is : compact_due a.files a.journal a.snapshots f c.as_slice-files.result.now ≡ compact_fault a m = ap (compact_due a.files a.journal a.snapshots f) (c.as_slice-files.ensures ∙ files-are a k lane name f x.0 x.1 x.2.own x.2.stands cur old w) in
-    merge-refused a c.args.self.now.books (ap (λ (z : StateSeen). z.books) c.self.view_is) lane name (λ n g. Unit {0}) m c.in-Err-capture.refusal (only-memory (capture_fault a.files) (compact_fault a m) c.in-Err-capture.refusal c.in-Ok-due_compaction.ensures.may c.in-Err-capture.ensures.refused)
+    let due_is : compact_due a.files a.journal a.snapshots f c.as_slice-files.result.now ≡ compact_refusal a m = ap (compact_due a.files a.journal a.snapshots f) (c.as_slice-files.ensures ∙ files-are a k lane name f x.0 x.1 x.2.own x.2.stands cur old w) in
+    merge-refused a c.args.self.now.books (ap (λ (z : StateSeen). z.books) c.self.view_is) lane name (λ n g. Unit {0}) m c.in-Err-capture.refusal (only-memory (capture_refusal a.files) (compact_refusal a m) c.in-Err-capture.refusal c.in-Ok-due_compaction.ensures.may c.in-Err-capture.ensures.refused)
 
 pub returns-in-Err-capture-clause-follows : goal.returns-in-Err-capture-clause-follows
 returns-in-Err-capture-clause-follows c =
@@ -164,7 +164,7 @@ invariant_of-self-2 c =
     let old : Body = c.body_at-body.result.now in
     let w : IsBodyOf a it.descriptor old = subst (IsBodyOf a it.descriptor) (sym at) (body-of a cur.serial ref.0.pack ref.0.body.value it opening.current.has ref.2) in
     let m : MeantAt a lane name = meant a k lane name f x.0 x.1 x.2.own x.2.stands cur in
-    let due_is : compact_due a.files a.journal a.snapshots f c.as_slice-files.result.now ≡ compact_fault a m = ap (compact_due a.files a.journal a.snapshots f) (c.as_slice-files.ensures ∙ files-are a k lane name f x.0 x.1 x.2.own x.2.stands cur old w) in
+    let due_is : compact_due a.files a.journal a.snapshots f c.as_slice-files.result.now ≡ compact_refusal a m = ap (compact_due a.files a.journal a.snapshots f) (c.as_slice-files.ensures ∙ files-are a k lane name f x.0 x.1 x.2.own x.2.stands cur old w) in
     let file : FileMeta = c.file_over.result in
     let e = c.file_over.ensures in
     let F : FileRegister = c.capture.new.self in
@@ -195,7 +195,7 @@ returns-clause-planned c =
     let old : Body = c.body_at-body.result.now in
     let w : IsBodyOf a it.descriptor old = subst (IsBodyOf a it.descriptor) (sym at) (body-of a cur.serial ref.0.pack ref.0.body.value it opening.current.has ref.2) in
     let m : MeantAt a lane name = meant a k lane name f x.0 x.1 x.2.own x.2.stands cur in
-    let due_is : compact_due a.files a.journal a.snapshots f c.as_slice-files.result.now ≡ compact_fault a m = ap (compact_due a.files a.journal a.snapshots f) (c.as_slice-files.ensures ∙ files-are a k lane name f x.0 x.1 x.2.own x.2.stands cur old w) in
+    let due_is : compact_due a.files a.journal a.snapshots f c.as_slice-files.result.now ≡ compact_refusal a m = ap (compact_due a.files a.journal a.snapshots f) (c.as_slice-files.ensures ∙ files-are a k lane name f x.0 x.1 x.2.own x.2.stands cur old w) in
     let file : FileMeta = c.file_over.result in
     let e = c.file_over.ensures in
     let F : FileRegister = c.capture.new.self in
@@ -207,7 +207,7 @@ returns-clause-planned c =
     (is-captured a k f file F L c.in-Ok-due_compaction.ensures.idle c.in-Ok-capture.ensures.refused (ap (λ (z : FileMeta). z.number) e ∙ caught.0)
     (c.live_cuts-cuts.ensures file (ap (λ (z : FileMeta). z.from) e) (ap (λ (z : FileMeta). z.to) e) (ap (λ (z : FileMeta). z.bottom.cuts) e)) caught.1
     (c.push_reserved.ensures.items ∙ ap (λ (l : List FileMeta). l ++ file ∷ []) c.reserve.ensures.items)) in
-    subst (λ (z : StateSeen). Planned {T = FileMeta} z.books lane name (compact_fault z.books) (λ n g. IsMergePlanned z.books new n.family g) (Ok c.file_over-2.result)) c.self.view_is
+    subst (λ (z : StateSeen). Planned {T = FileMeta} z.books lane name (compact_refusal z.books) (λ n g. IsMergePlanned z.books new n.family g) (Ok c.file_over-2.result)) c.self.view_is
     (inr (m, sym due_is ∙ c.in-Ok-due_compaction.ensures.refused, subst (IsMergePlanned a new f) (c.file_over.ensures ∙ sym c.file_over-2.ensures) h))
 
 pub returns-clause-follows : goal.returns-clause-follows
@@ -227,7 +227,7 @@ returns-clause-follows c =
     let old : Body = c.body_at-body.result.now in
     let w : IsBodyOf a it.descriptor old = subst (IsBodyOf a it.descriptor) (sym at) (body-of a cur.serial ref.0.pack ref.0.body.value it opening.current.has ref.2) in
     let m : MeantAt a lane name = meant a k lane name f x.0 x.1 x.2.own x.2.stands cur in
-    let due_is : compact_due a.files a.journal a.snapshots f c.as_slice-files.result.now ≡ compact_fault a m = ap (compact_due a.files a.journal a.snapshots f) (c.as_slice-files.ensures ∙ files-are a k lane name f x.0 x.1 x.2.own x.2.stands cur old w) in
+    let due_is : compact_due a.files a.journal a.snapshots f c.as_slice-files.result.now ≡ compact_refusal a m = ap (compact_due a.files a.journal a.snapshots f) (c.as_slice-files.ensures ∙ files-are a k lane name f x.0 x.1 x.2.own x.2.stands cur old w) in
     let file : FileMeta = c.file_over.result in
     let e = c.file_over.ensures in
     let F : FileRegister = c.capture.new.self in

@@ -7,7 +7,7 @@ use Rattle.sv_laws.specs.Installs.{IsOpen}
 use Rattle.sv_laws.proofs.Growing.{get_within}
 use Rattle.sv_objects.specs.declared.bodies.Body.{Body}
 use Rattle.sv_state.specs.Currents.{HasCurrentAt}
-use Rattle.sv_state.specs.Planning.{IsCellIf, IsFlushPlan, MeantAt, Planned, active_rows, flush_due, flush_fault}
+use Rattle.sv_state.specs.Planning.{IsCellIf, IsFlushPlan, MeantAt, Planned, active_rows, flush_due, flush_refusal}
 use Rattle.sv_state.specs.Refs.{IsBodyOf}
 use Rattle.sv_state.specs.Seen.{StateSeen}
 use Rattle.sv_state.specs.Views.{books_of}
@@ -90,8 +90,8 @@ returns-in-Err-due_flush c =
     let m : MeantAt a lane name = meant a k lane name f x.0 x.1 x.2.own x.2.stands cur in
     let rows = rows-are a k lane name f x.0 x.1 x.2.own x.2.stands cur old w c.written.result c.written.ensures in
     let members : length c.as_slice-members.result.now ≡ length m.list.members = ap (λ l. length l) c.as_slice-members.ensures ∙ members-are a k lane name f x.0 x.1 x.2.own x.2.stands cur old w in
-    let due_is : flush_due a.files f a.supers a.memtables (c.written.result - old.descriptor.base) (length c.as_slice-members.result.now) ≡ flush_fault a m = λ j. flush_due a.files f a.supers a.memtables (rows j) (members j) in
-    subst (λ (z : StateSeen). Planned z.books lane name (flush_fault z.books) (IsFlushPlan z.books) (Err c.in-Err-due_flush.refusal)) c.self.view_is (inr (m, due-exactly (flush_fault a m) c.in-Err-due_flush.refusal (sym due_is ∙ c.in-Err-due_flush.ensures.refused), tt))
+    let due_is : flush_due a.files f a.supers a.memtables (c.written.result - old.descriptor.base) (length c.as_slice-members.result.now) ≡ flush_refusal a m = λ j. flush_due a.files f a.supers a.memtables (rows j) (members j) in
+    subst (λ (z : StateSeen). Planned z.books lane name (flush_refusal z.books) (IsFlushPlan z.books) (Err c.in-Err-due_flush.refusal)) c.self.view_is (inr (m, due-exactly (flush_refusal a m) c.in-Err-due_flush.refusal (sym due_is ∙ c.in-Err-due_flush.ensures.refused), tt))
 
 pub returns : goal.returns
 returns c =
@@ -112,7 +112,7 @@ returns c =
     let m : MeantAt a lane name = meant a k lane name f x.0 x.1 x.2.own x.2.stands cur in
     let rows = rows-are a k lane name f x.0 x.1 x.2.own x.2.stands cur old w c.written.result c.written.ensures in
     let members : length c.as_slice-members.result.now ≡ length m.list.members = ap (λ l. length l) c.as_slice-members.ensures ∙ members-are a k lane name f x.0 x.1 x.2.own x.2.stands cur old w in
-    let due_is : flush_due a.files f a.supers a.memtables (c.written.result - old.descriptor.base) (length c.as_slice-members.result.now) ≡ flush_fault a m = λ j. flush_due a.files f a.supers a.memtables (rows j) (members j) in
+    let due_is : flush_due a.files f a.supers a.memtables (c.written.result - old.descriptor.base) (length c.as_slice-members.result.now) ≡ flush_refusal a m = λ j. flush_due a.files f a.supers a.memtables (rows j) (members j) in
     let s = c.in-Ok-due_flush.switches in
     let is : s ≡ nat_lt 0 (active_rows a m) = c.in-Ok-due_flush.ensures.switches ∙ ap (nat_lt 0) rows in
-    subst (λ (z : StateSeen). Planned z.books lane name (flush_fault z.books) (IsFlushPlan z.books) (Ok (record { family = f; cell = c.cell_if-cell.result }))) c.self.view_is (inr (m, sym due_is ∙ c.in-Ok-due_flush.ensures.refused, record { family_is = refl; cell = subst (IsCellIf a.memtables m.it.descriptor.active (nat_lt 0 (active_rows a m))) (sym c.cell_if-cell.ensures) (cell-if a k lane name f x.0 x.1 x.2.own x.2.stands cur old w s is) }))
+    subst (λ (z : StateSeen). Planned z.books lane name (flush_refusal z.books) (IsFlushPlan z.books) (Ok (record { family = f; cell = c.cell_if-cell.result }))) c.self.view_is (inr (m, sym due_is ∙ c.in-Ok-due_flush.ensures.refused, record { family_is = refl; cell = subst (IsCellIf a.memtables m.it.descriptor.active (nat_lt 0 (active_rows a m))) (sym c.cell_if-cell.ensures) (cell-if a k lane name f x.0 x.1 x.2.own x.2.stands cur old w s is) }))

@@ -8,7 +8,7 @@ use Rattle.sv_laws.specs.Installs.{IsOpen}
 use Rattle.sv_laws.proofs.Growing.{get_within}
 use Rattle.sv_objects.specs.declared.bodies.Body.{Body}
 use Rattle.sv_state.specs.Currents.{HasCurrentAt}
-use Rattle.sv_state.specs.Planning.{IsPlanOf, MeantAt, Planned, active_rows, is_switch_due, write_due, write_fault}
+use Rattle.sv_state.specs.Planning.{IsPlanOf, MeantAt, Planned, active_rows, is_switch_due, write_due, write_refusal}
 use Rattle.sv_state.specs.Refs.{IsBodyOf}
 use Rattle.sv_state.specs.Seen.{StateSeen}
 use Rattle.sv_state.specs.Views.{books_of}
@@ -92,8 +92,8 @@ returns-in-Err-due_write-clause-planned c =
     let rows = rows-are a k lane name f x.0 x.1 x.2.own x.2.stands cur old w c.written.result c.written.ensures in
     let members : length c.as_slice-members.result.now ≡ length m.list.members = ap (λ l. length l) c.as_slice-members.ensures ∙ members-are a k lane name f x.0 x.1 x.2.own x.2.stands cur old w in
     let opt : c.options-options.result ≡ x.0.options = options-read i.families f x.0 c.options-options.result x.1 c.options-options.ensures in
-    let due_is : write_due a.journal a.supers a.memtables (c.written.result - old.descriptor.base) (length c.as_slice-members.result.now) c.options-options.result ≡ write_fault a m = λ j. write_due a.journal a.supers a.memtables (rows j) (members j) (opt j) in
-    subst (λ (z : StateSeen). Planned z.books lane name (write_fault z.books) (IsPlanOf z.books) (Err c.in-Err-due_write.refusal)) c.self.view_is (inr (m, due-exactly (write_fault a m) c.in-Err-due_write.refusal (sym due_is ∙ c.in-Err-due_write.ensures.refused), tt))
+    let due_is : write_due a.journal a.supers a.memtables (c.written.result - old.descriptor.base) (length c.as_slice-members.result.now) c.options-options.result ≡ write_refusal a m = λ j. write_due a.journal a.supers a.memtables (rows j) (members j) (opt j) in
+    subst (λ (z : StateSeen). Planned z.books lane name (write_refusal z.books) (IsPlanOf z.books) (Err c.in-Err-due_write.refusal)) c.self.view_is (inr (m, due-exactly (write_refusal a m) c.in-Err-due_write.refusal (sym due_is ∙ c.in-Err-due_write.ensures.refused), tt))
 
 pub returns-in_default-clause-planned : goal.returns-in_default-clause-planned
 returns-in_default-clause-planned c =
@@ -115,8 +115,8 @@ returns-in_default-clause-planned c =
     let rows = rows-are a k lane name f x.0 x.1 x.2.own x.2.stands cur old w c.written.result c.written.ensures in
     let members : length c.as_slice-members.result.now ≡ length m.list.members = ap (λ l. length l) c.as_slice-members.ensures ∙ members-are a k lane name f x.0 x.1 x.2.own x.2.stands cur old w in
     let opt : c.options-options.result ≡ x.0.options = options-read i.families f x.0 c.options-options.result x.1 c.options-options.ensures in
-    let due_is : write_due a.journal a.supers a.memtables (c.written.result - old.descriptor.base) (length c.as_slice-members.result.now) c.options-options.result ≡ write_fault a m = λ j. write_due a.journal a.supers a.memtables (rows j) (members j) (opt j) in
-    subst (λ (z : StateSeen). Planned z.books lane name (write_fault z.books) (IsPlanOf z.books) (Err OutOfMemory)) c.self.view_is (inr (m, tt, tt))
+    let due_is : write_due a.journal a.supers a.memtables (c.written.result - old.descriptor.base) (length c.as_slice-members.result.now) c.options-options.result ≡ write_refusal a m = λ j. write_due a.journal a.supers a.memtables (rows j) (members j) (opt j) in
+    subst (λ (z : StateSeen). Planned z.books lane name (write_refusal z.books) (IsPlanOf z.books) (Err OutOfMemory)) c.self.view_is (inr (m, tt, tt))
 
 pub returns-clause-planned : goal.returns-clause-planned
 returns-clause-planned c =
@@ -138,7 +138,7 @@ returns-clause-planned c =
     let rows = rows-are a k lane name f x.0 x.1 x.2.own x.2.stands cur old w c.written.result c.written.ensures in
     let members : length c.as_slice-members.result.now ≡ length m.list.members = ap (λ l. length l) c.as_slice-members.ensures ∙ members-are a k lane name f x.0 x.1 x.2.own x.2.stands cur old w in
     let opt : c.options-options.result ≡ x.0.options = options-read i.families f x.0 c.options-options.result x.1 c.options-options.ensures in
-    let due_is : write_due a.journal a.supers a.memtables (c.written.result - old.descriptor.base) (length c.as_slice-members.result.now) c.options-options.result ≡ write_fault a m = λ j. write_due a.journal a.supers a.memtables (rows j) (members j) (opt j) in
+    let due_is : write_due a.journal a.supers a.memtables (c.written.result - old.descriptor.base) (length c.as_slice-members.result.now) c.options-options.result ≡ write_refusal a m = λ j. write_due a.journal a.supers a.memtables (rows j) (members j) (opt j) in
     let s = c.in-Ok-due_write.switches in
     let is : s ≡ is_switch_due (active_rows a m) x.0.options = c.in-Ok-due_write.ensures.switches ∙ (λ j. is_switch_due (rows j) (opt j)) in
-    subst (λ (z : StateSeen). Planned z.books lane name (write_fault z.books) (IsPlanOf z.books) (Ok c.plan_of.result)) c.self.view_is (inr (m, sym due_is ∙ c.in-Ok-due_write.ensures.refused, subst (IsPlanOf a m) (sym c.plan_of.ensures) (plan-is a k lane name f x.0 x.1 x.2.own x.2.stands cur old w s is)))
+    subst (λ (z : StateSeen). Planned z.books lane name (write_refusal z.books) (IsPlanOf z.books) (Ok c.plan_of.result)) c.self.view_is (inr (m, sym due_is ∙ c.in-Ok-due_write.ensures.refused, subst (IsPlanOf a m) (sym c.plan_of.ensures) (plan-is a k lane name f x.0 x.1 x.2.own x.2.stands cur old w s is)))
