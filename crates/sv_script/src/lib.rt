@@ -14,6 +14,6 @@ pub use outcomes::Outcome;
 pub use parsing::{parse, printed_items_are_read};
 pub use replies::{LaneReport, Reply, Tail};
 pub use scripts::{
-    BadKind, BadLine, Line, MAX_COMMANDS, MAX_LANES, MAX_PHASES, Script, ScriptError,
+    BadKind, BadLine, Line, MAX_COMMANDS, MAX_PHASES, Script, ScriptError,
 };
 pub use texts::{no_memory_text, outcome_text, reply_text, report_text, tail_text};
