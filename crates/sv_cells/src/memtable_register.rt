@@ -10,7 +10,7 @@ ghost use Rattle.sv_cells.specs.Calls.{HaveCells, IsEnded, IsJustMade, IsMade, m
 
 use std::alloc::Global;
 use std::marker::Model;
-use sv_model::{FamilyId, MemId, Memtable, PlacedRegister, Refusal, MAX_CELLS};
+use sv_model::{FamilyId, MAX_CELLS, MemId, Memtable, PlacedRegister, Refusal};
 
 /// The greatest number of memtables ever made.
 pub const MAX_MEMTABLES: usize = 4_294_967_295;

@@ -12,7 +12,9 @@ use crate::ranges;
 use crate::sought::{is_default, is_retired, place_of_own, place_of_standing};
 use std::alloc::Global;
 use std::marker::Model;
-use sv_model::{Family, FamilyId, Name, OptionName, Options, OutOfMemory, Refusal, MAX_FAMILIES, MAX_LANES};
+use sv_model::{
+    Family, FamilyId, MAX_FAMILIES, MAX_LANES, Name, OptionName, Options, OutOfMemory, Refusal,
+};
 
 /// The families ever made. Contracts see the list of their records, by id from 0.
 #[derive(Drop)]

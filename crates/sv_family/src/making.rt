@@ -4,7 +4,7 @@ ghost use Rattle.sv_model.specs.Families.{default_family};
 ghost use Rattle.sv_family.specs.Calls.{new_family};
 
 use std::alloc::Global;
-use sv_model::{Family, Name, Options, OutOfMemory, MAX_LANES};
+use sv_model::{Family, MAX_LANES, Name, Options, OutOfMemory};
 
 // The family of which each lane has a handle.
 pub(crate) fn default_family(alloc: Global) -> Result<Family, OutOfMemory>

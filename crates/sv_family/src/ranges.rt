@@ -4,7 +4,7 @@ ghost use Rattle.sv_model.specs.Families.{greatest_of};
 ghost use Rattle.sv_family.specs.Calls.{with_option};
 ghost use Rattle.sv_family.specs.Refused.{option_refusal};
 
-use sv_model::{OptionName, Options, Refusal, MAX_ROWS};
+use sv_model::{MAX_ROWS, OptionName, Options, Refusal};
 
 /// The greatest value of `max_immutable`; the least is 1.
 pub const MAX_IMMUTABLE: u8 = 8;

@@ -14,7 +14,7 @@ use crate::numbers::Numbers;
 use crate::settled::{Settled, status_of};
 use std::alloc::Global;
 use std::marker::Model;
-use sv_model::{FamilyId, FileNumber, FileStatus, OutOfMemory, Refusal, MAX_CAPTURED};
+use sv_model::{FamilyId, FileNumber, FileStatus, MAX_CAPTURED, OutOfMemory, Refusal};
 
 const FAMILIES: usize = 16;
 

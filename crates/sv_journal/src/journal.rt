@@ -7,7 +7,7 @@ ghost use Rattle.sv_journal.specs.Calls.{journal_refusal};
 use crate::live::LiveSnapshot;
 use std::alloc::Global;
 use std::marker::Model;
-use sv_model::{FamilyId, OutOfMemory, Snapshot, Write, MAX_WRITES};
+use sv_model::{FamilyId, MAX_WRITES, OutOfMemory, Snapshot, Write};
 
 /// How many families there are at most.
 pub const FAMILIES: usize = 16;

@@ -28,7 +28,7 @@ pub use faults::OutOfMemory;
 pub use holders::{Holder, HolderRegister, MAX_HOLDERS};
 pub use ids::{FamilyId, FileNumber, ListId, MemId, Pack, SvSerial, VersionId};
 pub use item_list::Items;
-pub use keys::{MAX_KEY, Key};
+pub use keys::{Key, MAX_KEY};
 pub use limits::{
     MAX_CAPTURED, MAX_CELLS, MAX_FAMILIES, MAX_HOLDS, MAX_JOBS, MAX_LANES, MAX_PLACES, MAX_ROWS,
     MAX_SNAPSHOTS, MAX_SNAPSHOTS_LIVE, MAX_SUPERS, MAX_WRITES,

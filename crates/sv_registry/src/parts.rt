@@ -3,7 +3,7 @@ ghost use Rattle.std.specs.Prelude.{◌↔◌, IsTrue};
 ghost use Rattle.sv_model.specs.Registers.{Has};
 ghost use Rattle.sv_registry.specs.Parts.{Names, NamesPart};
 
-use sv_model::{Descriptor, ListId, MemId, PlacedRegister, SuperVersion, VersionId, MAX_PLACES};
+use sv_model::{Descriptor, ListId, MAX_PLACES, MemId, PlacedRegister, SuperVersion, VersionId};
 
 /// One of the three that a SuperVersion names.
 #[derive(Clone, Copy)]

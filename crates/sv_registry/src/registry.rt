@@ -12,7 +12,10 @@ ghost use Rattle.sv_registry.specs.Calls.{HaveOwnPlaces, IsJustMade, IsLivePack,
 use crate::parts::{Part, is_named};
 use std::alloc::Global;
 use std::marker::Model;
-use sv_model::{Descriptor, ListId, MemId, Pack, PlacedRegister, Refusal, SuperVersion, SvSerial, VersionId, MAX_PLACES, MAX_SUPERS};
+use sv_model::{
+    Descriptor, ListId, MAX_PLACES, MAX_SUPERS, MemId, Pack, PlacedRegister, Refusal, SuperVersion,
+    SvSerial, VersionId,
+};
 
 /// Every SuperVersion ever made, by its serial, which is never used again. Contracts see the list of
 /// their records.

@@ -3,7 +3,7 @@ ghost use Rattle.std.specs.Prelude.{◌<◌};
 
 use std::alloc::Global;
 use sv_files::{FileBook, Settled};
-use sv_model::{FamilyId, FileNumber, FileStatus, Refusal, MAX_JOBS};
+use sv_model::{FamilyId, FileNumber, FileStatus, MAX_JOBS, Refusal};
 
 pub fn capture(book: &mut FileBook, family: u8) -> Result<FileNumber, Refusal>
     requires { family < 16 }

@@ -5,7 +5,7 @@ use crate::books::{
 use std::alloc::Global;
 use std::rt::HostRuntime;
 use sv_files::{FileBook, Settled};
-use sv_model::{FamilyId, FileNumber, FileStatus, Refusal, MAX_CAPTURED};
+use sv_model::{FamilyId, FileNumber, FileStatus, MAX_CAPTURED, Refusal};
 
 #[test]
 fn captures_and_settles(rt: HostRuntime) {

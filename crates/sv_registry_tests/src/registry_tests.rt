@@ -1,6 +1,9 @@
 // The registry of SuperVersions: its limits, its places, and what a reclaimed one gives back.
 use std::rt::HostRuntime;
-use sv_model::{Descriptor, FamilyId, ListId, MemId, Options, Pack, Refusal, SvSerial, VersionId, MAX_PLACES, MAX_SUPERS};
+use sv_model::{
+    Descriptor, FamilyId, ListId, MAX_PLACES, MAX_SUPERS, MemId, Options, Pack, Refusal, SvSerial,
+    VersionId,
+};
 use sv_registry::{Freed, Registry};
 
 fn descriptor(active: u32, list: u32, version: u32) -> Descriptor {

@@ -117,7 +117,6 @@ module _ (lane : ℕ) (a b : Books) (k : Known) (own : OwnAre lane a k) (name : 
     (placed : IsPlaced a.families b.families id r) (is : IsOwn lane name r) (free : k.handles name ≡ None)
     (before : (x : Family) (other : List ℕ) → slice_get a.families id ≡ Some x → IsOwn lane other x → other ≡ name)
     (holds : b.files.holds ≡ a.files.holds) (journal : b.journal ≡ a.journal) where
-
   here_only : (other : List ℕ) → IsOwn lane other r → other ≡ name
   here_only other own = sym own.name_is ∙ is.name_is
 

@@ -4,7 +4,6 @@ ghost use Rattle.sv_script.specs.Numbers.{lane_of, number_of, with_digit};
 
 use sv_model::MAX_LANES;
 
-
 // The greatest number of digits of a number.
 const MAX_DIGITS: usize = 20;
 
