@@ -1,5 +1,5 @@
 -- What a lane has of its own is the books' after a turn, as it was before.
-use Rattle.std.proofs.Common.{Bool, List, None, Option, Some, ap, arith, refl, subst, sym, ℕ, ⊎_elim, ◌+◌, ◌<◌, ◌∙◌, ◌≡◌, ◌≤◌}
+use Rattle.std.proofs.Common.{List, None, Option, Some, ap, arith, refl, subst, sym, ℕ, ⊎_elim, ◌∙◌, ◌≡◌, ◌≤◌}
 use mathlib.Core.Logic.{dite}
 use native.Mathlib.Decide.{ℕ_discrete}
 use Rattle.sv_model.specs.Books.{Books}
@@ -33,8 +33,7 @@ module _ (l : ℕ) (a b : Books) (t u : Task) (more : List Write) (c : IsAccount
       → IsAccounted l b u × ((n : ℕ) → grabs n u ≤ having is_grabbed n b.files.numbers)
   accounted-on grabbed =
       let still : (n : ℕ) → grabs n u ≤ having is_grabbed n b.files.numbers = λ n.
-      omega (arith, grabbed n, h.counts.grabbed n) in
-      (
+      omega (arith, grabbed n, h.counts.grabbed n) in (
         record {
           lawful = h.counts.lawful;
           quiet = h.counts.quiet;

@@ -1,11 +1,10 @@
 -- Turns of a cleanup: a SuperVersion is Gone, with what it alone named.
-use Rattle.std.proofs.Common.{Bool, List, None, Option, Some, [], ap, arith, cond, false, inl, inr, length, refl, subst, suc, sym, true, zero, ℕ, ⊎_elim, ◌*◌, ◌+◌, ◌/◌, ◌<◌, ◌==◌, ◌∙◌, ◌∷◌, ◌≡◌, ◌≢◌, ◌≤◌, ◌⊎◌}
-use Rattle.std.specs.Prelude.{slice_get}
-use Rattle.sv_model.specs.Books.{Books, FileRegister}
-use Rattle.sv_model.specs.Lists.{In, bit}
+use Rattle.std.proofs.Common.{Bool, List, Some, [], ap, arith, cond, false, inl, length, refl, subst, sym, true, ℕ, ⊎_elim, ◌/◌, ◌<◌, ◌==◌, ◌∙◌, ◌≡◌, ◌≤◌}
+use Rattle.sv_model.specs.Books.{Books}
+use Rattle.sv_model.specs.Lists.{bit}
 use Rattle.sv_model.specs.Named.{NamedFile}
 use Rattle.sv_model.specs.Numbers.{having, is_grabbed, is_live, is_pending}
-use Rattle.sv_model.specs.Registers.{GoesOn, change, entry}
+use Rattle.sv_model.specs.Registers.{change, entry}
 use Rattle.sv_model.specs.Summaries.{is_gone}
 use Rattle.sv_model.specs.Supers.{pack}
 use Rattle.sv_model.specs.Tasks.{Task}
@@ -19,9 +18,8 @@ use Rattle.sv_model.proofs.Entries.{some}
 use Rattle.sv_model.proofs.Registers.{entry-else, entry-same, length-change}
 use Rattle.sv_laws.specs.Cleaning.{AreCellsGone, IsCleaned, TurnsFile}
 use Rattle.sv_laws.proofs.Registers.{total-le, total-same}
-use Rattle.sv_turns.specs.Called.{IsCalled, StandsElse}
+use Rattle.sv_turns.specs.Called.{IsCalled}
 use Rattle.sv_turns.proofs.Counting.{cond-zero}
-use Rattle.sv_turns.proofs.Found.{IsOther, as_gone, as_live, as_pending}
 use Rattle.sv_turns.proofs.Frames.{jobs-stand, true_not_false, turns-numbers}
 
 module _ (Named : ℕ → Type 0) where

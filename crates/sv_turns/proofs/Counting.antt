@@ -1,20 +1,18 @@
 -- How often a number has a status, as registers change.
-use Rattle.std.proofs.Common.{Bool, List, None, Option, Some, [], ap, arith, cond, eq-eqb, false, inl, inr, map, ne_eqb, refl, suc, sym, true, zero, ℕ, ⊎_elim, ◌++◌, ◌+◌, ◌==◌, ◌||◌, ◌∙◌, ◌∷◌, ◌≡◌, ◌≢◌, ◌≤◌, ◌⊎◌}
+use Rattle.std.proofs.Common.{Bool, List, [], ap, arith, cond, eq-eqb, false, map, ne_eqb, refl, sym, true, ℕ, ◌++◌, ◌+◌, ◌==◌, ◌||◌, ◌∙◌, ◌∷◌, ◌≡◌, ◌≤◌}
 use Rattle.std.specs.List.{list_any}
 use mathlib.Core.Logic.{dite}
 use native.Mathlib.Decide.{ℕ_discrete}
 use Rattle.sv_model.specs.Lists.{bit, same, times, total}
 use Rattle.sv_model.specs.Numbers.{IsMarked, IsRegistered, having, is_grabbed, is_live, is_pending, registered}
-use Rattle.sv_model.specs.Registers.{entry}
 use Rattle.sv_model.specs.Summaries.{is_gone, is_obsolete}
-use Rattle.sv_model.specs.Tasks.{Mark}
 use Rattle.sv_model.specs.declared.records.FileStatus.{FileStatus}
 use Rattle.sv_model.specs.declared.records.FileStatus.TheVariants.{Gone, Grabbed, Live, Obsolete, Pending}
 use Rattle.sv_model.specs.declared.records.RegisteredFile.{RegisteredFile}
 use Rattle.sv_model.proofs.Lists.{same_here, same_other, total-push}
 use Rattle.sv_model.proofs.Registers.{total-change, total_entry}
 use Rattle.sv_files.specs.Calls.{grab, stray}
-use Rattle.sv_turns.specs.Owned.{grabbed_mark, without, without_mark}
+use Rattle.sv_turns.specs.Owned.{grabbed_mark}
 
 pub cond-zero : (b : Bool) → ◌≡◌ {A = ℕ} (cond b 0 0) 0
 cond-zero true = refl

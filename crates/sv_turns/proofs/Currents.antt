@@ -1,18 +1,17 @@
 -- Turns of calls that make a SuperVersion a family's current, and of which it is the current then.
-use Rattle.std.proofs.Common.{Bool, List, None, Option, Some, [], ap, arith, false, inl, inr, length, refl, set, subst, sym, true, ℕ, ⊎_elim, ◌%◌, ◌*◌, ◌++◌, ◌+◌, ◌/◌, ◌<◌, ◌∙◌, ◌∷◌, ◌≡◌, ◌≢◌, ◌≤◌}
+use Rattle.std.proofs.Common.{None, Some, [], ap, arith, false, length, refl, set, subst, sym, ℕ, ◌++◌, ◌+◌, ◌<◌, ◌∙◌, ◌∷◌, ◌≡◌, ◌≤◌}
 use Rattle.std.specs.Prelude.{slice_get}
 use mathlib.Core.Logic.{dite}
 use native.Mathlib.Decide.{ℕ_discrete}
 use Rattle.sv_model.specs.Books.{Books}
 use Rattle.sv_model.specs.Families.{is_retired}
-use Rattle.sv_model.specs.Journal.{borne_by, of_family}
+use Rattle.sv_model.specs.Journal.{of_family}
 use Rattle.sv_model.specs.Registers.{entry}
-use Rattle.sv_model.specs.Supers.{IsSerialOf, current_in, current_of, current_serial, pack, pack_at, pack_of_serial}
+use Rattle.sv_model.specs.Supers.{current_of, current_serial, pack, pack_at, pack_of_serial}
 use Rattle.sv_model.specs.Tasks.{Task, handle}
-use Rattle.sv_model.specs.Turns.{IsNewMemtable, NoneRetires, Opens, Turns}
+use Rattle.sv_model.specs.Turns.{NoneRetires, Opens, Turns}
 use Rattle.sv_model.specs.declared.records.Descriptor.{Descriptor}
 use Rattle.sv_model.specs.declared.records.Family.{Family}
-use Rattle.sv_model.specs.declared.records.Memtable.{Memtable}
 use Rattle.sv_model.specs.declared.records.SuperVersion.{SuperVersion}
 use Rattle.sv_model.specs.declared.records.Top.{Top}
 use Rattle.sv_model.specs.declared.settings.Options.{Options}
@@ -22,7 +21,7 @@ use Rattle.sv_model.proofs.Entries.{some}
 use Rattle.sv_model.proofs.Registers.{entry-new, entry_le}
 use Rattle.sv_laws.specs.Growing.{IsPlaced}
 use Rattle.sv_laws.specs.Installs.{IsOpen, live_super, next_top}
-use Rattle.sv_laws.specs.NewCurrents.{IsCompacted, IsFamilyMade, IsFlushed, IsOptionSet, IsSwitched}
+use Rattle.sv_laws.specs.NewCurrents.{IsCompacted, IsFlushed, IsOptionSet, IsSwitched}
 use Rattle.sv_laws.proofs.Growing.{placed-set}
 use Rattle.sv_laws.proofs.Handles.{not-retired-open}
 use Rattle.sv_turns.specs.Called.{IsCalled, next_pack}

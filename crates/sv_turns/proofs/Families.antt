@@ -1,5 +1,5 @@
 -- Turns of handles, of a family's drop and its retirement, and of the end of a current.
-use Rattle.std.proofs.Common.{Bool, List, None, Option, Some, [], ap, arith, cond, eq-eqb, false, length, map, ne_eqb, refl, set, subst, suc, sym, true, zero, ℕ, ◌&&◌, ◌++◌, ◌+◌, ◌<◌, ◌==◌, ◌∙◌, ◌∷◌, ◌≡◌, ◌≢◌, ◌≤◌}
+use Rattle.std.proofs.Common.{Bool, List, None, Some, [], ap, arith, cond, eq-eqb, false, length, map, ne_eqb, refl, set, suc, sym, true, zero, ℕ, ◌+◌, ◌<◌, ◌∙◌, ◌∷◌, ◌≡◌, ◌≢◌, ◌≤◌}
 use Rattle.std.specs.Prelude.{slice_get}
 use mathlib.Core.Logic.{dite}
 use native.Mathlib.Decide.{ℕ_discrete}
@@ -9,11 +9,10 @@ use Rattle.sv_model.specs.Lists.{at, bit, same, times}
 use Rattle.sv_model.specs.Tasks.{Task, handle, handle_in}
 use Rattle.sv_model.specs.Turns.{EndsCurrent, NoneRetires, Stands, Turns}
 use Rattle.sv_model.specs.declared.records.Family.{Family}
-use Rattle.sv_model.specs.declared.records.Top.{Top}
 use Rattle.sv_model.proofs.Entries.{some}
 use Rattle.sv_model.proofs.Lists.{same_here, same_other}
 use Rattle.sv_laws.specs.Families.{IsCurrentEnded, IsDropped, IsOpened, IsReleased, IsRetired, released}
-use Rattle.sv_laws.proofs.Growing.{get_within, placed-set}
+use Rattle.sv_laws.proofs.Growing.{placed-set}
 use Rattle.sv_laws.proofs.Handles.{not-retired, not-retired-open}
 use Rattle.sv_turns.specs.Called.{IsCalled, MovesHandles}
 use Rattle.sv_turns.specs.Owned.{opens_family, releases, without}

@@ -1,5 +1,5 @@
 -- What a finding and a scan make of the numbers: what was found is Grabbed, and nothing else changed.
-use Rattle.std.proofs.Common.{Bool, List, [], ap, arith, cond, false, inl, inr, map, refl, suc, sym, true, zero, ℕ, ⊎_elim, ◌+◌, ◌==◌, ◌∙◌, ◌≡◌, ◌≤◌}
+use Rattle.std.proofs.Common.{Bool, List, ap, arith, cond, false, inr, map, refl, suc, zero, ℕ, ⊎_elim, ◌+◌, ◌==◌, ◌∙◌, ◌≡◌, ◌≤◌}
 use Rattle.sv_model.specs.Books.{FileRegister}
 use Rattle.sv_model.specs.Lists.{bit, times}
 use Rattle.sv_model.specs.Numbers.{IsReady, NumbersStand, having, is_grabbed, is_live, is_pending, registered}
@@ -9,7 +9,7 @@ use Rattle.sv_model.specs.declared.records.FileStatus.TheVariants.{Grabbed, Obso
 use Rattle.sv_model.specs.declared.records.RegisteredFile.{RegisteredFile}
 use Rattle.sv_model.proofs.Ascending.{rises_from}
 use Rattle.sv_model.proofs.Lists.{in_times, times_in, total-append}
-use Rattle.sv_files.specs.Calls.{IsFound, IsScanned, IsStray, grab, stray}
+use Rattle.sv_files.specs.Calls.{IsFound, IsScanned, grab, stray}
 use Rattle.sv_turns.proofs.Counting.{having-found, having-not_found, having-strays, having_registered, statuses}
 use Rattle.sv_turns.proofs.Orders.{distinct-times, rises-times}
 
@@ -95,8 +95,7 @@ module _ (a : FileRegister) (s : NumbersStand a.numbers a.captured a.next) where
     -- a stray was not registered, and was found
     strays_new : (n : ℕ) → times n h.strays ≡ 1 → (registered n a.numbers ≡ 0) × (times n found ≡ 1)
     strays_new n z =
-        let i = in_times n h.strays (omega (arith, z)) in
-        (
+        let i = in_times n h.strays (omega (arith, z)) in (
           (((h.chosen.exact n).0 i).1).new,
           omega (arith, scan_once n, times_in n found ((h.found_are.exact n).1 (inr i))),
         )

@@ -1,12 +1,12 @@
 -- What a call moves makes a turn of the lane; what stands moves nothing.
-use Rattle.std.proofs.Common.{Bool, List, None, Option, Some, [], ap, arith, false, inl, inr, refl, subst, suc, sym, true, zero, ℕ, ⊎_elim, ◌++◌, ◌∙◌, ◌∷◌, ◌≡◌, ◌≢◌, ◌≤◌, ◌⊎◌}
+use Rattle.std.proofs.Common.{List, Option, Some, [], ap, arith, false, inl, inr, refl, subst, sym, true, ℕ, ⊎_elim, ◌++◌, ◌∙◌, ◌∷◌, ◌≡◌, ◌≤◌, ◌⊎◌}
 use Rattle.std.specs.Prelude.{slice_get}
 use Rattle.sv_model.specs.Books.{Books}
-use Rattle.sv_model.specs.Lists.{In, same, times}
-use Rattle.sv_model.specs.Numbers.{having, is_live}
+use Rattle.sv_model.specs.Lists.{In, same}
+use Rattle.sv_model.specs.Numbers.{having}
 use Rattle.sv_model.specs.Summaries.{is_gone}
 use Rattle.sv_model.specs.Tasks.{Mark, Output, Task, gone_snapshot, grabs, handle, job_count, marks_of}
-use Rattle.sv_model.specs.Turns.{IsFresh, IsOutput, Turns, taken_mark}
+use Rattle.sv_model.specs.Turns.{IsFresh, Turns, taken_mark}
 use Rattle.sv_model.specs.declared.records.Family.{Family}
 use Rattle.sv_model.specs.declared.records.RegisteredFile.{RegisteredFile}
 use Rattle.sv_model.specs.declared.records.Snapshot.{Snapshot}

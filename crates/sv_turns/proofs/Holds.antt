@@ -1,18 +1,17 @@
 -- Turns of holds and their end, of a hold that answers, and of listings.
-use Rattle.std.proofs.Common.{Bool, List, None, Option, Some, [], ap, arith, cond, false, inl, inr, refl, subst, suc, sym, true, zero, ℕ, ⊎_elim, ◌++◌, ◌+◌, ◌<◌, ◌==◌, ◌∙◌, ◌∷◌, ◌≡◌, ◌≢◌, ◌≤◌, ◌⊎◌}
+use Rattle.std.proofs.Common.{Bool, List, Some, [], ap, arith, cond, false, inl, inr, refl, suc, sym, true, zero, ℕ, ⊎_elim, ◌++◌, ◌<◌, ◌==◌, ◌∙◌, ◌∷◌, ◌≡◌, ◌≢◌, ◌≤◌}
 use Rattle.std.proofs.Common.{length, ne_eqb, set}
 use Rattle.std.specs.Prelude.{slice_get}
 use Rattle.sv_model.specs.Books.{Books, FileRegister}
 use Rattle.sv_model.specs.Lists.{Every, In, at}
 use Rattle.sv_model.specs.Numbers.{having, is_live}
-use Rattle.sv_model.specs.Tasks.{Mark, Output, Task, handle, job_count}
-use Rattle.sv_model.specs.Turns.{Stands, Turns}
+use Rattle.sv_model.specs.Tasks.{Task, handle}
+use Rattle.sv_model.specs.Turns.{Turns}
 use Rattle.sv_model.proofs.Entries.{in_append}
 use Rattle.sv_files.specs.Calls.{with_hold}
-use Rattle.sv_turns.specs.Called.{IsCalled, Moves, MovesHolds, MovesListed}
+use Rattle.sv_turns.specs.Called.{IsCalled, MovesListed}
 use Rattle.sv_turns.specs.Owned.{holds_with, lists, quietens}
 use Rattle.sv_turns.proofs.Frames.{append_none, handles-stand, holds-stand, jobs-stand, no_writes, numbers-stand, snapshots-stand, true_not_false, turns-of}
-use Rattle.sv_turns.proofs.Writes.{stands-all}
 
 pub at-set : (l : List ℕ) (i x : ℕ) → i < length l → at 0 (set l i x) i ≡ x
 at-set [] i x h = absurd (omega arith)

@@ -1,21 +1,20 @@
 -- Turns of jobs: numbers are found, taken and scanned, given back, and the job ends.
-use Rattle.std.proofs.Common.{Bool, List, None, Option, Some, [], ap, arith, cond, eq-eqb, false, inl, inr, map, ne_eqb, refl, subst, suc, sum, sym, true, zero, ℕ, ⊎_elim, ◌++◌, ◌+◌, ◌-◌, ◌==◌, ◌∙◌, ◌∷◌, ◌≡◌, ◌≢◌, ◌≤◌, ◌⊎◌}
+use Rattle.std.proofs.Common.{Bool, List, None, Some, [], ap, arith, cond, eq-eqb, false, inl, inr, map, ne_eqb, refl, subst, suc, sum, sym, true, zero, ℕ, ⊎_elim, ◌+◌, ◌-◌, ◌==◌, ◌∙◌, ◌∷◌, ◌≡◌}
 use Rattle.std.specs.Prelude.{slice_get}
 use Rattle.std.proofs.lemmas.List.Sums.{sum_by-cons}
 use mathlib.Core.Logic.{dite}
 use native.Mathlib.Decide.{ℕ_discrete}
 use Rattle.sv_model.specs.Books.{Books, FileRegister}
 use Rattle.sv_model.specs.Lists.{In, at, bit, same, times, total}
-use Rattle.sv_model.specs.Numbers.{AreInOrder, IsMarked, IsReady, MarksOnly, having, is_grabbed, is_live, is_pending, registered}
-use Rattle.sv_model.specs.Summaries.{is_gone, is_obsolete}
-use Rattle.sv_model.specs.Tasks.{Mark, Output, Task, job_count, marks_of}
-use Rattle.sv_model.specs.Turns.{IsFresh, Stands, Turns, taken_mark}
+use Rattle.sv_model.specs.Numbers.{MarksOnly, having, is_grabbed, is_live, is_pending}
+use Rattle.sv_model.specs.Summaries.{is_gone}
+use Rattle.sv_model.specs.Tasks.{Mark, Task, job_count, marks_of}
+use Rattle.sv_model.specs.Turns.{Stands, Turns, taken_mark}
 use Rattle.sv_model.specs.declared.records.FileStatus.{FileStatus}
-use Rattle.sv_model.specs.declared.records.FileStatus.TheVariants.{Gone, Grabbed, Obsolete}
-use Rattle.sv_model.specs.declared.records.RegisteredFile.{RegisteredFile}
+use Rattle.sv_model.specs.declared.records.FileStatus.TheVariants.{Grabbed, Obsolete}
 use Rattle.sv_model.proofs.Entries.{get_none, in-cons, in-suc, some}
 use Rattle.sv_files.specs.Calls.{IsFound, IsScanned, IsTaken, ungrabbed}
-use Rattle.sv_turns.specs.Called.{IsCalled, MovesNumbers, StandsElse, marked}
+use Rattle.sv_turns.specs.Called.{IsCalled, StandsElse, marked}
 use Rattle.sv_turns.specs.Owned.{begins_job, ends_job, gives_back, grabbed_mark, without_mark}
 use Rattle.sv_turns.proofs.Counting.{cond-zero, having-marked, marks-found}
 use Rattle.sv_turns.proofs.Found.{IsOther, as_gone, as_live, as_pending, found-grabbed, found-same, scanned-grabbed, scanned-same}

@@ -1,5 +1,5 @@
 -- Memtables that are new with a SuperVersion, and families that are made with their first ones.
-use Rattle.std.proofs.Common.{Bool, List, None, Option, Some, [], ap, arith, drop, false, length, length-drop, map, refl, replicate, set, subst, suc, sym, take, true, zero, ℕ, ◌++◌, ◌+◌, ◌<◌, ◌∙◌, ◌∷◌, ◌≡◌, ◌≢◌, ◌≤◌}
+use Rattle.std.proofs.Common.{Bool, List, None, Option, Some, [], ap, arith, drop, false, length, length-drop, map, refl, replicate, set, suc, sym, take, true, zero, ℕ, ◌++◌, ◌+◌, ◌<◌, ◌∙◌, ◌∷◌, ◌≡◌, ◌≢◌, ◌≤◌}
 use Rattle.std.specs.Prelude.{slice_get}
 use mathlib.Core.Logic.{dite}
 use native.Mathlib.Decide.{ℕ_discrete}
@@ -7,19 +7,18 @@ use Rattle.sv_model.specs.Books.{Books}
 use Rattle.sv_model.specs.Described.{BearsFrom}
 use Rattle.sv_model.specs.Families.{is_retired}
 use Rattle.sv_model.specs.Journal.{borne_by, of_family}
-use Rattle.sv_model.specs.Lists.{at, bit, same, times}
+use Rattle.sv_model.specs.Lists.{at, bit, same}
 use Rattle.sv_model.specs.Registers.{entry}
 use Rattle.sv_model.specs.Steady.{Sound}
-use Rattle.sv_model.specs.Supers.{IsSerialOf, current_in, current_of, current_serial, pack, pack_at, pack_of_serial}
+use Rattle.sv_model.specs.Supers.{current_serial, pack_at, pack_of_serial}
 use Rattle.sv_model.specs.Tasks.{Task, handle, handle_in}
-use Rattle.sv_model.specs.Turns.{IsNewMemtable, NoneRetires, Opens, Turns}
+use Rattle.sv_model.specs.Turns.{IsNewMemtable, Opens, Turns}
 use Rattle.sv_model.specs.declared.records.Descriptor.{Descriptor}
 use Rattle.sv_model.specs.declared.records.Family.{Family}
 use Rattle.sv_model.specs.declared.records.Memtable.{Memtable}
-use Rattle.sv_model.specs.declared.records.Top.{Top}
 use Rattle.sv_model.specs.declared.writes.Write.{Write}
 use Rattle.sv_model.proofs.Basics.{none_some}
-use Rattle.sv_model.proofs.Entries.{get_push, some}
+use Rattle.sv_model.proofs.Entries.{some}
 use Rattle.sv_model.proofs.Lists.{same_here, same_other}
 use Rattle.sv_model.proofs.Registers.{entry-new}
 use Rattle.sv_laws.specs.NewCurrents.{IsFamilyMade, IsSwitched}

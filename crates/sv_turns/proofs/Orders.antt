@@ -1,8 +1,8 @@
 -- How often a number stands in a list that rises.
-use Rattle.std.proofs.Common.{List, Some, [], ap, arith, refl, suc, sym, zero, ℕ, ◌<◌, ◌∷◌, ◌≡◌, ◌≢◌, ◌≤◌}
+use Rattle.std.proofs.Common.{List, Some, [], ap, arith, refl, suc, sym, zero, ℕ, ◌<◌, ◌∷◌, ◌≡◌, ◌≤◌}
 use mathlib.Core.Logic.{dite}
 use native.Mathlib.Decide.{ℕ_discrete}
-use Rattle.sv_model.specs.Lists.{Distinct, In, same, times}
+use Rattle.sv_model.specs.Lists.{Distinct, In, times}
 use Rattle.sv_model.proofs.Ascending.{Rises}
 use Rattle.sv_model.proofs.Lists.{in_times, same-le, same_other}
 

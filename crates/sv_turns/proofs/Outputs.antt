@@ -1,5 +1,5 @@
 -- Turns of captures, of their end, and of outputs that are given up.
-use Rattle.std.proofs.Common.{Bool, List, None, Option, Some, [], ap, arith, cond, false, inl, inr, refl, subst, suc, sym, true, ℕ, ⊎_elim, ◌++◌, ◌+◌, ◌==◌, ◌∙◌, ◌∷◌, ◌≡◌, ◌≤◌, ◌⊎◌}
+use Rattle.std.proofs.Common.{Bool, List, None, Option, Some, [], ap, arith, cond, false, inl, inr, refl, subst, suc, sym, true, ℕ, ⊎_elim, ◌++◌, ◌+◌, ◌==◌, ◌∙◌, ◌∷◌, ◌≡◌, ◌⊎◌}
 use Rattle.std.specs.Prelude.{slice_get}
 use mathlib.Core.Logic.{dite}
 use native.Mathlib.Decide.{ℕ_discrete}
@@ -21,7 +21,7 @@ use Rattle.sv_turns.specs.Called.{IsCalled, StandsElse}
 use Rattle.sv_turns.specs.Owned.{captures_output, without_output}
 use Rattle.sv_turns.proofs.Counting.{cond-zero, having-marked, having-push}
 use Rattle.sv_turns.proofs.Writes.{stands-all}
-use Rattle.sv_turns.proofs.Frames.{jobs-stand, true_not_false, turns-numbers}
+use Rattle.sv_turns.proofs.Frames.{jobs-stand, turns-numbers}
 
 in-last : {A : Type 0} (l : List A) (x : A) → In x (l ++ x ∷ [])
 in-last l x = let w = last l x in record { at = w.0; is = w.1 }

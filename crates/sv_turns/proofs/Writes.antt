@@ -1,5 +1,5 @@
 -- Turns of writes, and of snapshots that are taken and ended.
-use Rattle.std.proofs.Common.{Bool, List, None, Option, Some, [], ap, arith, cond, false, length, refl, subst, sym, true, ℕ, ⊎_elim, ◌++◌, ◌+◌, ◌∙◌, ◌∷◌, ◌≡◌, ◌≤◌}
+use Rattle.std.proofs.Common.{List, None, Option, Some, [], ap, arith, cond, false, length, refl, subst, sym, true, ℕ, ⊎_elim, ◌++◌, ◌+◌, ◌∙◌, ◌∷◌, ◌≡◌, ◌≤◌}
 use Rattle.std.specs.Prelude.{slice_get}
 use mathlib.Core.Logic.{dite}
 use native.Mathlib.Decide.{ℕ_discrete}
@@ -10,9 +10,9 @@ use Rattle.sv_model.specs.Tasks.{Task, gone_count, gone_snapshot, handle}
 use Rattle.sv_model.specs.Turns.{Stands, Turns}
 use Rattle.sv_model.specs.declared.records.Snapshot.{Snapshot}
 use Rattle.sv_model.specs.declared.writes.Write.{Write}
-use Rattle.sv_model.proofs.Entries.{get_one, some}
+use Rattle.sv_model.proofs.Entries.{get_one}
 use Rattle.sv_model.proofs.Lists.{same_here, same_other}
-use Rattle.sv_model.proofs.Registers.{entry-else, entry-new, entry-old, entry-same, entry_push}
+use Rattle.sv_model.proofs.Registers.{entry-else, entry-old, entry-same, entry_push}
 use Rattle.sv_laws.specs.Snapping.{IsSnapped, IsUnsnapped}
 use Rattle.sv_laws.specs.Writes.{IsWritten}
 use Rattle.sv_turns.specs.Called.{IsCalled}

@@ -1,6 +1,6 @@
 -- What a lane has of its own after each call.
-use Rattle.std.specs.Prelude.{Bool, List, None, Option, Some, [], cond, false, map, true, ℕ, ◌++◌, ◌==◌, ◌∷◌}
-use Rattle.sv_model.specs.Tasks.{Mark, Output, Task}
+use Rattle.std.specs.Prelude.{Bool, List, None, Some, [], cond, false, map, true, ℕ, ◌++◌, ◌==◌, ◌∷◌}
+use Rattle.sv_model.specs.Tasks.{Mark, Task}
 use Rattle.sv_model.specs.declared.records.FileMeta.{FileMeta}
 
 -- ---- outputs
