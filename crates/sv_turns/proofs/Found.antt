@@ -142,3 +142,33 @@ module _ (a : FileRegister) (s : NumbersStand a.numbers a.captured a.next) where
               (λ none. omega (arith, (scan_was n z none).0, (scan_was n z none).1))
               (λ one. omega (arith, (strays_new n one).0))),
         ))
+
+    -- what was Obsolete and is not Grabbed is no more than before; what was registered is
+    pub scanned-obsolete : (n : ℕ) → having is_obsolete n b.numbers ≤ having is_obsolete n a.numbers
+    scanned-obsolete n =
+        let split : having is_obsolete n b.numbers ≡ having is_obsolete n (map (grab found) a.numbers) = omega
+        (arith, parts is_obsolete n) in
+        by_times (times n found) (scan_once n)
+        (λ z. omega (arith, split, having-not_found is_obsolete n found z a.numbers))
+        (λ z. omega (arith, split, having-found is_obsolete n found (omega (arith, z)) a.numbers))
+
+    pub scanned-registered : (n : ℕ) → registered n a.numbers ≤ registered n b.numbers
+    scanned-registered n = omega (
+      arith,
+      statuses n a.numbers,
+      statuses n b.numbers,
+      scanned-same is_pending (as_pending refl) n,
+      scanned-same is_live (as_live refl) n,
+      scanned-same is_gone (as_gone refl) n,
+      scanned-grabbed n,
+      moved,
+    )
+      where
+        moved : having is_obsolete n a.numbers ≤ having is_obsolete n b.numbers + times n found
+        moved = by_times (times n found) (scan_once n)
+            (λ z. omega (
+              arith,
+              parts is_obsolete n,
+              having-not_found is_obsolete n found z a.numbers,
+            ))
+            (λ z. omega (arith, z, s.once n, statuses n a.numbers))

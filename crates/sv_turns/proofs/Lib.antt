@@ -7,6 +7,7 @@ pub mod Found
 pub mod Frames
 pub mod Holds
 pub mod Jobs
+pub mod Listings
 pub mod Memtables
 pub mod Orders
 pub mod Outputs

@@ -1,8 +1,12 @@
 // Each call of the state is one turn of the lane that makes it.
 ghost use Rattle.std.specs.Prelude.{Bool, List, None, Some, [], false, length, replicate, slice_get, slice_set, sum, true, ℕ, ◌-◌, ◌<◌, ◌∷◌, ◌≡◌, ◌≤◌};
-ghost use Rattle.sv_model.specs.Books.{Books};
+ghost use Rattle.sv_model.specs.Books.{Books, FileRegister};
+ghost use Rattle.sv_model.specs.Families.{is_retired};
+ghost use Rattle.sv_model.specs.Lawful.{Lawful};
 ghost use Rattle.sv_model.specs.Lists.{Every, In};
-ghost use Rattle.sv_model.specs.Numbers.{MarksOnly, having, is_grabbed, is_live};
+ghost use Rattle.sv_model.specs.Named.{numbers_of};
+ghost use Rattle.sv_model.specs.Numbers.{MarksOnly, NumbersStand, having, is_grabbed, is_live};
+ghost use Rattle.sv_model.specs.Registers.{entry};
 ghost use Rattle.sv_model.specs.Steady.{Sound};
 ghost use Rattle.sv_model.specs.Supers.{pack};
 ghost use Rattle.sv_model.specs.Tasks.{Mark, Output, Task, grabs};
@@ -13,6 +17,8 @@ ghost use Rattle.sv_model.specs.declared.records.FileMeta.{FileMeta};
 ghost use Rattle.sv_model.specs.declared.records.FileStatus.TheVariants.{Grabbed};
 ghost use Rattle.sv_model.specs.declared.records.Snapshot.{Snapshot};
 ghost use Rattle.sv_model.specs.declared.records.SuperVersion.{SuperVersion};
+ghost use Rattle.sv_model.specs.declared.records.Top.{Top};
+ghost use Rattle.sv_model.specs.declared.records.Version.{Version};
 ghost use Rattle.sv_model.specs.declared.settings.Options.{Options};
 ghost use Rattle.sv_model.specs.declared.writes.Write.{Write};
 ghost use Rattle.sv_files.specs.Calls.{IsFound, IsScanned, IsTaken, ungrabbed, with_hold};
@@ -23,6 +29,7 @@ ghost use Rattle.sv_laws.specs.NewCurrents.{IsCompacted, IsFamilyMade, IsFlushed
 ghost use Rattle.sv_laws.specs.Snapping.{IsSnapped, IsUnsnapped};
 ghost use Rattle.sv_laws.specs.Writes.{IsWritten};
 ghost use Rattle.sv_turns.specs.Called.{IsCalled, OfCalls, first_memtable, next_pack, switched_to};
+ghost use Rattle.sv_turns.specs.Listings.{TellsScan};
 ghost use Rattle.sv_turns.specs.Owned.{begins_job, captures_output, ends_job, ends_snapshot, gives_back, holds_with, lists, opens_family, quietens, releases, without_output};
 
 /// A write, and snapshots that are taken and ended. SuperVersions, currents and memtables stand.
@@ -87,4 +94,11 @@ pub fn turns_of_jobs()
 /// After a turn the books have what the lane has of its own, as before it.
 pub fn turns_that_go_on()
     ensures { (l : ℕ) (a b : Books) (t u : Task) (more : List Write) → IsAccounted l a t → Turns l a t b u more → ((n : ℕ) → grabs n t ≤ having is_grabbed n a.files.numbers) → IsAccounted l b u × ((n : ℕ) → grabs n u ≤ having is_grabbed n b.files.numbers) }
+{}
+
+/// A scan tells of each number that was listed whether it is to be removed; and what a family names last is Live, so
+/// that a lane whose hold has answered may list it.
+pub fn listings_that_tell()
+    ensures scan { (a b : FileRegister) (listed found : List ℕ) → NumbersStand a.numbers a.captured a.next → IsScanned a b listed found → TellsScan a b listed found }
+    ensures last { (b : Books) → Lawful b → (f : ℕ) (y : Family) (t : Top) → slice_get b.families f ≡ Some y → slice_get b.tops f ≡ Some t → is_retired y ≡ false → (v : Version) → entry b.versions t.last ≡ Some v → Every (λ n. 1 ≤ having is_live n b.files.numbers) (numbers_of v.files) }
 {}
