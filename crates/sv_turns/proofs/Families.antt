@@ -4,7 +4,8 @@ use Rattle.std.specs.Prelude.{slice_get}
 use mathlib.Core.Logic.{dite}
 use native.Mathlib.Decide.{ℕ_discrete}
 use Rattle.sv_model.specs.Books.{Books}
-use Rattle.sv_model.specs.Families.{is_retired}
+use Rattle.sv_model.specs.Families.{default_name, is_retired}
+use Rattle.sv_model.specs.Lawful.{Lawful}
 use Rattle.sv_model.specs.Lists.{at, bit, same, times}
 use Rattle.sv_model.specs.Tasks.{Task, handle, handle_in}
 use Rattle.sv_model.specs.Turns.{EndsCurrent, NoneRetires, Stands, Turns}
@@ -300,3 +301,11 @@ module _ (l : ℕ) (a b : Books) (t : Task) (c : IsCalled l a t b) (f : ℕ) whe
         families = λ g x z ne e d. ap is_retired (some (sym d ∙ ap (λ q. slice_get q g) families ∙ e));
         same = λ x z e d r. ap is_retired (some (sym d ∙ ap (λ q. slice_get q f) families ∙ e)) ∙ r;
       }
+
+-- a family of another name than that of the default one is not it
+pub not-default : (a : Books) → Lawful a → (f : ℕ) (x : Family) → slice_get a.families f ≡ Some x
+    → (x.name ≡ default_name → ⊥) → 0 < f
+not-default a k zero x e ne =
+    let d = k.default in
+    absurd (ne (ap (λ (z : Family). z.name) (some (sym e ∙ d.at)) ∙ d.name_is))
+not-default a k (suc f) x e ne = omega arith

@@ -30,11 +30,14 @@ use Rattle.sv_turns.proofs.Found.{scanned-grabbed, scanned-obsolete, scanned-reg
 obsolete_term : (n : ℕ) (x : RegisteredFile) → 0 < cond (x.number == n) (bit (is_obsolete x.status)) 0
     → (x.number ≡ n) × (x.status ≡ Obsolete)
 obsolete_term n x h = dite (ℕ_discrete x.number n)
-    (λ e. (e, of x.status (omega (
-      arith,
-      h,
-      ap (λ b. cond b (bit (is_obsolete x.status)) 0) (eq-eqb x.number n e),
-    ))))
+    (λ e. (
+      e,
+      of x.status (omega (
+        arith,
+        h,
+        ap (λ b. cond b (bit (is_obsolete x.status)) 0) (eq-eqb x.number n e),
+      )),
+    ))
     (λ ne. absurd (omega (arith, h, ap (λ b. cond b (bit (is_obsolete x.status)) 0) (ne_eqb x.number n ne))))
   where
     of : (s : FileStatus) → 0 < bit (is_obsolete s) → s ≡ Obsolete
@@ -67,11 +70,14 @@ scan-tells a b listed found s h = record {
       (λ w. inr (((h.chosen.exact n).0 w).1).new)
       ((h.found_are.exact n).0 (record { at = i; is = e }));
   left = λ i n e low below. by_none (registered n a.numbers)
-      (λ none. inl ((h.found_are.exact n).1 (inr ((h.chosen.exact n).1 (record { at = i; is = e }, record {
-        new = none;
-        low = low;
-        below = below;
-      })))))
+      (λ none. inl ((h.found_are.exact n).1 (inr ((h.chosen.exact n).1 (
+        record { at = i; is = e },
+        record {
+          new = none;
+          low = low;
+          below = below;
+        },
+      )))))
       (λ some. by_none (having is_obsolete n a.numbers)
       (λ none. inr (
         omega (arith, some, scanned-registered a s b listed found h n),

@@ -1,7 +1,7 @@
 // Each call of the state is one turn of the lane that makes it.
 ghost use Rattle.std.specs.Prelude.{Bool, List, None, Some, [], false, length, replicate, slice_get, slice_set, sum, true, ℕ, ◌-◌, ◌<◌, ◌∷◌, ◌≡◌, ◌≤◌};
 ghost use Rattle.sv_model.specs.Books.{Books, FileRegister};
-ghost use Rattle.sv_model.specs.Families.{is_retired};
+ghost use Rattle.sv_model.specs.Families.{default_name, is_retired};
 ghost use Rattle.sv_model.specs.Lawful.{Lawful};
 ghost use Rattle.sv_model.specs.Lists.{Every, In};
 ghost use Rattle.sv_model.specs.Named.{numbers_of};
@@ -21,7 +21,7 @@ ghost use Rattle.sv_model.specs.declared.records.Top.{Top};
 ghost use Rattle.sv_model.specs.declared.records.Version.{Version};
 ghost use Rattle.sv_model.specs.declared.settings.Options.{Options};
 ghost use Rattle.sv_model.specs.declared.writes.Write.{Write};
-ghost use Rattle.sv_files.specs.Calls.{IsFound, IsScanned, IsTaken, ungrabbed, with_hold};
+ghost use Rattle.sv_files.specs.Calls.{IsFound, IsScanned, IsTaken, disabled, ungrabbed, with_hold};
 ghost use Rattle.sv_laws.specs.Captures.{IsFlushBegun, IsGivenUp, IsMergePlanned};
 ghost use Rattle.sv_laws.specs.Cleaning.{AreCellsGone, IsCleaned};
 ghost use Rattle.sv_laws.specs.Families.{IsCurrentEnded, IsDropped, IsOpened, IsReleased, IsRetired};
@@ -89,6 +89,12 @@ pub fn turns_of_jobs()
     ensures taken { OfCalls (λ l a b t. (n : ℕ) → b ≡ record a { files = b.files } → IsTaken n a.files b.files → sum a.files.holds ≡ 0 → t.job ≡ None → Turns l a t b (begins_job (n ∷ []) t) [] × Stands a b) }
     ensures ungrabbed { OfCalls (λ l a b t. (n : ℕ) (gone : Bool) (marks : List Mark) (k : Mark) → b ≡ record a { files = b.files } → MarksOnly n Grabbed (ungrabbed gone) a.files b.files → t.job ≡ Some marks → In k marks → k.number ≡ n → (gone ≡ true → k.taken ≡ true) → Turns l a t b (gives_back n gone marks t) [] × Stands a b) }
     ensures ended { OfCalls (λ l a b t. b ≡ record a { files = b.files } → b.files ≡ record a.files { jobs = a.files.jobs - 1 } → t.job ≡ Some [] → Turns l a t b (ends_job t) [] × Stands a b) }
+{}
+
+/// What a call that was not refused met: no hold stood, or the family is not the default one.
+pub fn calls_that_went_on()
+    ensures free { (r : FileRegister) → disabled r ≡ None → sum r.holds ≡ 0 }
+    ensures other { (a : Books) → Lawful a → (f : ℕ) (x : Family) → slice_get a.families f ≡ Some x → (x.name ≡ default_name → ⊥) → 0 < f }
 {}
 
 /// After a turn the books have what the lane has of its own, as before it.

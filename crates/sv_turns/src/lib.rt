@@ -6,6 +6,7 @@
 mod laws;
 
 pub use laws::{
-    listings_that_tell, turns_of_cleanups, turns_of_currents, turns_of_families, turns_of_holds,
-    turns_of_jobs, turns_of_made_families, turns_of_outputs, turns_of_writes, turns_that_go_on,
+    calls_that_went_on, listings_that_tell, turns_of_cleanups, turns_of_currents,
+    turns_of_families, turns_of_holds, turns_of_jobs, turns_of_made_families, turns_of_outputs,
+    turns_of_writes, turns_that_go_on,
 };
