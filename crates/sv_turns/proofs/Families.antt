@@ -301,11 +301,3 @@ module _ (l : ℕ) (a b : Books) (t : Task) (c : IsCalled l a t b) (f : ℕ) whe
         families = λ g x z ne e d. ap is_retired (some (sym d ∙ ap (λ q. slice_get q g) families ∙ e));
         same = λ x z e d r. ap is_retired (some (sym d ∙ ap (λ q. slice_get q f) families ∙ e)) ∙ r;
       }
-
--- a family of another name than that of the default one is not it
-pub not-default : (a : Books) → Lawful a → (f : ℕ) (x : Family) → slice_get a.families f ≡ Some x
-    → (x.name ≡ default_name → ⊥) → 0 < f
-not-default a k zero x e ne =
-    let d = k.default in
-    absurd (ne (ap (λ (z : Family). z.name) (some (sym e ∙ d.at)) ∙ d.name_is))
-not-default a k (suc f) x e ne = omega arith

@@ -34,7 +34,7 @@ pub turns-of : (l : ℕ) (a b : Books) (t u : Task) (more : List Write) → IsCa
     → Turns l a t b u more
 turns-of l a b t u more c m = record {
   counts = record {
-    lawful = c.sound.lawful;
+    lawful = c.lawful;
     later = c.later;
     journal = m.journal;
     own = m.own;

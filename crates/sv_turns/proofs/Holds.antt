@@ -5,8 +5,10 @@ use Rattle.std.specs.Prelude.{slice_get}
 use Rattle.sv_model.specs.Books.{Books, FileRegister}
 use Rattle.sv_model.specs.Lists.{Every, In, at}
 use Rattle.sv_model.specs.Numbers.{having, is_live}
+use Rattle.sv_model.specs.Steady.{Sound}
 use Rattle.sv_model.specs.Tasks.{Task, handle}
-use Rattle.sv_model.specs.Turns.{Turns}
+use Rattle.sv_model.specs.Turns.{IsAccounted, Turns}
+use Rattle.sv_model.proofs.AfterLaws.{after-itself}
 use Rattle.sv_model.proofs.Entries.{in_append}
 use Rattle.sv_files.specs.Calls.{with_hold}
 use Rattle.sv_turns.specs.Called.{IsCalled, MovesListed}
@@ -32,12 +34,12 @@ length-set (y ∷ l) (suc i) x = ap suc (length-set l i x)
 
 module _ (l : ℕ) (a b : Books) (t : Task) (c : IsCalled l a t b) where
   -- The lane has so many holds.
-  pub held-turns : (count : ℕ) → l < 32 → b ≡ record a { files = b.files } → b.files ≡ with_hold a.files l count
+  pub held-turns : (count : ℕ) → Sound b → l < 32 → b ≡ record a { files = b.files } → b.files ≡ with_hold a.files l count
       → Turns l a t b (holds_with count t) []
-  held-turns count near e h =
+  held-turns count sound near e h =
       let holds : b.files.holds ≡ set a.files.holds l count = ap (λ (z : FileRegister). z.holds) h in
       let long : length a.files.holds ≡ 32 = sym (length-set a.files.holds l count) ∙ sym (ap length holds)
-      ∙ c.sound.steady.holds in
+      ∙ sound.steady.holds in
       let jobs : b.files.jobs ≡ a.files.jobs = ap (λ (z : FileRegister). z.jobs) h in
       turns-of l a b t (holds_with count t) [] c (record {
         journal = ap (λ (z : Books). z.journal) e ∙ append_none a.journal;
@@ -81,7 +83,10 @@ module _ (l : ℕ) (a b : Books) (t : Task) (c : IsCalled l a t b) where
 
 -- ---- what changes nothing in the books
 
-module _ (l : ℕ) (a : Books) (t : Task) (c : IsCalled l a t a) where
+module _ (l : ℕ) (a : Books) (t : Task) (own : IsAccounted l a t) where
+  c : IsCalled l a t a
+  c = record { own = own; lawful = own.lawful; later = after-itself a }
+
   stays : (quiet : Bool) (listed : List ℕ) → MovesListed a t (record t { quiet = quiet; listed = listed }) a
       → Turns l a t a (record t { quiet = quiet; listed = listed }) []
   stays quiet listed m = turns-of l a a t (record t { quiet = quiet; listed = listed }) [] c (record {
@@ -108,7 +113,7 @@ module _ (l : ℕ) (a : Books) (t : Task) (c : IsCalled l a t a) where
   pub listed-turns : (found : List ℕ) → t.quiet ≡ true
       → Every (λ n. 1 ≤ having is_live n a.files.numbers) found → Turns l a t a (lists found t) []
   listed-turns found quiet live = stays t.quiet (t.listed ++ found) (record {
-    quiet = c.own.quiet;
+    quiet = own.quiet;
     loud = λ q. true_not_false (sym quiet ∙ q);
     listed = λ i n q. ⊎_elim (λ h. inl h) (λ (h : In n found). inr (live h.at n h.is))
         (in_append n t.listed found (record { at = i; is = q }));

@@ -243,13 +243,3 @@ module _ (l : ℕ) (a b : Books) (t : Task) (c : IsCalled l a t b) where
 pub files-stands : (a b : Books) → b ≡ record a { files = b.files } → Stands a b
 files-stands a b e = stands-all a b (ap (λ (z : Books). z.supers) e) (ap (λ (z : Books). z.tops) e)
     (ap (λ (z : Books). z.memtables) e) (ap (λ (z : Books). z.families) e)
-
--- ---- where a call was not refused for a hold
-
-pub no_holds : (r : FileRegister) → disabled r ≡ None → sum r.holds ≡ 0
-no_holds r e = dite (ℕ_discrete (sum r.holds) 0) (λ q. q)
-    (λ ne. absurd (clash (sym (ap (λ b. cond b (Some (Disabled (sum r.holds))) None)
-    (lt-ltb 0 (sum r.holds) (omega (arith, ne)))) ∙ e)))
-  where
-    clash : Some (Disabled (sum r.holds)) ≡ None → ⊥
-    clash e = cc

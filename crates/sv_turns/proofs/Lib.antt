@@ -11,4 +11,5 @@ pub mod Listings
 pub mod Memtables
 pub mod Orders
 pub mod Outputs
+pub mod Unrefused
 pub mod Writes

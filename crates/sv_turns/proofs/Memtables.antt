@@ -77,7 +77,7 @@ module _ (l : ℕ) (a b : Books) (t : Task) (c : IsCalled l a t b) where
         cell = refl;
         live = refl;
         no_rows = rows-none b.journal (length a.memtables + 1) m
-            (c.sound.lawful.rows (length a.memtables + 1) m (ap (λ z. entry z (length a.memtables + 1)) memtables
+            (c.lawful.rows (length a.memtables + 1) m (ap (λ z. entry z (length a.memtables + 1)) memtables
             ∙ entry-new a.memtables m (length a.memtables + 1) refl))
             (ap (λ (z : Books). length (of_family f z.journal)) (sym h.is));
       }

@@ -4,9 +4,9 @@ use Rattle.std.specs.Prelude.{List, Option, Some, [], false, length, true, ℕ, 
 use Rattle.sv_model.specs.After.{After}
 use Rattle.sv_model.specs.Books.{Books}
 use Rattle.sv_model.specs.Journal.{of_family}
+use Rattle.sv_model.specs.Lawful.{Lawful}
 use Rattle.sv_model.specs.Lists.{Every, In, at, same, times, total}
 use Rattle.sv_model.specs.Numbers.{having, is_grabbed, is_live, is_pending}
-use Rattle.sv_model.specs.Steady.{Sound}
 use Rattle.sv_model.specs.Summaries.{is_gone}
 use Rattle.sv_model.specs.Supers.{pack}
 use Rattle.sv_model.specs.Tasks.{Mark, Output, Task, gone_snapshot, handle, job_count, marks_of, output_count}
@@ -20,7 +20,7 @@ use Rattle.sv_model.specs.declared.writes.Write.{Write}
 -- Lane l, which has t of its own in the books a, makes a call that leaves the books b.
 pub record IsCalled (l : ℕ) (a : Books) (t : Task) (b : Books) : Type 0 where
   pub own : IsAccounted l a t
-  pub sound : Sound b
+  pub lawful : Lawful b
   pub later : After a b
 
 -- how often the number is in a job

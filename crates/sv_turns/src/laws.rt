@@ -28,7 +28,7 @@ ghost use Rattle.sv_laws.specs.Families.{IsCurrentEnded, IsDropped, IsOpened, Is
 ghost use Rattle.sv_laws.specs.NewCurrents.{IsCompacted, IsFamilyMade, IsFlushed, IsOptionSet, IsSwitched};
 ghost use Rattle.sv_laws.specs.Snapping.{IsSnapped, IsUnsnapped};
 ghost use Rattle.sv_laws.specs.Writes.{IsWritten};
-ghost use Rattle.sv_turns.specs.Called.{IsCalled, OfCalls, first_memtable, next_pack, switched_to};
+ghost use Rattle.sv_turns.specs.Called.{OfCalls, first_memtable, next_pack, switched_to};
 ghost use Rattle.sv_turns.specs.Listings.{TellsScan};
 ghost use Rattle.sv_turns.specs.Owned.{begins_job, captures_output, ends_job, ends_snapshot, gives_back, holds_with, lists, opens_family, quietens, releases, without_output};
 
@@ -61,9 +61,9 @@ pub fn turns_of_cleanups()
 
 /// Holds and their end; a hold that answers; files that a lane lists, whose hold has answered.
 pub fn turns_of_holds()
-    ensures held { OfCalls (λ l a b t. (count : ℕ) → l < MAX_LANES → b ≡ record a { files = b.files } → b.files ≡ with_hold a.files l count → Turns l a t b (holds_with count t) [] × Stands a b) }
-    ensures quiet { (l : ℕ) (a : Books) (t : Task) → IsCalled l a t a → 0 < t.holds → a.files.jobs ≡ 0 → Turns l a t a (quietens t) [] }
-    ensures listed { (l : ℕ) (a : Books) (t : Task) → IsCalled l a t a → (found : List ℕ) → t.quiet ≡ true → Every (λ n. 1 ≤ having is_live n a.files.numbers) found → Turns l a t a (lists found t) [] }
+    ensures held { OfCalls (λ l a b t. (count : ℕ) → Sound b → l < MAX_LANES → b ≡ record a { files = b.files } → b.files ≡ with_hold a.files l count → Turns l a t b (holds_with count t) [] × Stands a b) }
+    ensures quiet { (l : ℕ) (a : Books) (t : Task) → IsAccounted l a t → 0 < t.holds → a.files.jobs ≡ 0 → Turns l a t a (quietens t) [] }
+    ensures listed { (l : ℕ) (a : Books) (t : Task) → IsAccounted l a t → (found : List ℕ) → t.quiet ≡ true → Every (λ n. 1 ≤ having is_live n a.files.numbers) found → Turns l a t a (lists found t) [] }
 {}
 
 /// Handles that are given and taken back, a family's drop, and the end of a current by its retirement or at the close.

@@ -1,5 +1,4 @@
-use Rattle.sv_turns.proofs.Families.{not-default}
-use Rattle.sv_turns.proofs.Jobs.{no_holds}
+use Rattle.sv_turns.proofs.Unrefused.{no_holds, not-default}
 use Rattle.sv_turns.proofs.laws.calls_that_went_on.Goals as goal
 
 pub returns-clause-free : goal.returns-clause-free
