@@ -4,8 +4,7 @@ use Rattle.std.specs.Prelude.{slice_get}
 use mathlib.Core.Logic.{dite}
 use native.Mathlib.Decide.{ℕ_discrete}
 use Rattle.sv_model.specs.Books.{Books}
-use Rattle.sv_model.specs.Families.{default_name, is_retired}
-use Rattle.sv_model.specs.Lawful.{Lawful}
+use Rattle.sv_model.specs.Families.{is_retired}
 use Rattle.sv_model.specs.Lists.{at, bit, same, times}
 use Rattle.sv_model.specs.Tasks.{Task, handle, handle_in}
 use Rattle.sv_model.specs.Turns.{EndsCurrent, NoneRetires, Stands, Turns}

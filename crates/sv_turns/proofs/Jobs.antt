@@ -1,7 +1,6 @@
 -- Turns of jobs: numbers are found, taken and scanned, given back, and the job ends.
 use Rattle.std.proofs.Common.{Bool, List, None, Some, [], ap, arith, cond, eq-eqb, false, inl, inr, map, ne_eqb, refl, subst, suc, sum, sym, true, zero, ℕ, ⊎_elim, ◌+◌, ◌-◌, ◌==◌, ◌∙◌, ◌∷◌, ◌≡◌}
 use Rattle.std.specs.Prelude.{slice_get}
-use Rattle.std.proofs.lemmas.Bool.{lt-ltb}
 use Rattle.std.proofs.lemmas.List.Sums.{sum_by-cons}
 use mathlib.Core.Logic.{dite}
 use native.Mathlib.Decide.{ℕ_discrete}
@@ -13,10 +12,8 @@ use Rattle.sv_model.specs.Tasks.{Mark, Task, job_count, marks_of}
 use Rattle.sv_model.specs.Turns.{Stands, Turns, taken_mark}
 use Rattle.sv_model.specs.declared.records.FileStatus.{FileStatus}
 use Rattle.sv_model.specs.declared.records.FileStatus.TheVariants.{Grabbed, Obsolete}
-use Rattle.sv_model.specs.declared.refusals.Refusal.{Refusal}
-use Rattle.sv_model.specs.declared.refusals.Refusal.TheVariants.{Disabled}
 use Rattle.sv_model.proofs.Entries.{get_none, in-cons, in-suc, some}
-use Rattle.sv_files.specs.Calls.{disabled, IsFound, IsScanned, IsTaken, ungrabbed}
+use Rattle.sv_files.specs.Calls.{IsFound, IsScanned, IsTaken, ungrabbed}
 use Rattle.sv_turns.specs.Called.{IsCalled, StandsElse, marked}
 use Rattle.sv_turns.specs.Owned.{begins_job, ends_job, gives_back, grabbed_mark, without_mark}
 use Rattle.sv_turns.proofs.Counting.{cond-zero, having-marked, marks-found}

@@ -1,5 +1,5 @@
 -- What a scan tells of the numbers that were listed, and that files which a family names are Live.
-use Rattle.std.proofs.Common.{Bool, List, Some, [], ap, arith, eq-eqb, false, inl, inr, map, ne_eqb, refl, suc, sym, true, zero, ℕ, ⊎_elim, ◌++◌, ◌+◌, ◌<◌, ◌==◌, ◌∙◌, ◌∷◌, ◌≡◌, ◌≤◌, ◌⊎◌}
+use Rattle.std.proofs.Common.{List, Some, ap, arith, eq-eqb, false, inl, inr, ne_eqb, refl, suc, sym, true, zero, ℕ, ⊎_elim, ◌<◌, ◌==◌, ◌∙◌, ◌≡◌, ◌≤◌}
 use Rattle.std.proofs.Common.{cond}
 use Rattle.std.specs.Prelude.{slice_get}
 use mathlib.Core.Logic.{dite}
@@ -7,9 +7,9 @@ use native.Mathlib.Decide.{ℕ_discrete}
 use Rattle.sv_model.specs.Books.{Books, FileRegister}
 use Rattle.sv_model.specs.Families.{is_retired}
 use Rattle.sv_model.specs.Lawful.{Lawful}
-use Rattle.sv_model.specs.Lists.{Every, In, bit, times, total}
+use Rattle.sv_model.specs.Lists.{Every, bit}
 use Rattle.sv_model.specs.Named.{numbers_of}
-use Rattle.sv_model.specs.Numbers.{IsRegistered, NumbersStand, having, is_grabbed, is_live, least_captured, registered}
+use Rattle.sv_model.specs.Numbers.{IsRegistered, NumbersStand, having, is_live, registered}
 use Rattle.sv_model.specs.Registers.{entry}
 use Rattle.sv_model.specs.Summaries.{is_obsolete}
 use Rattle.sv_model.specs.declared.records.Family.{Family}
@@ -23,7 +23,7 @@ use Rattle.sv_model.proofs.Lists.{times_in}
 use Rattle.sv_model.proofs.Registers.{has_total}
 use Rattle.sv_files.specs.Calls.{IsScanned}
 use Rattle.sv_turns.specs.Listings.{TellsScan}
-use Rattle.sv_turns.proofs.Counting.{having_registered, statuses}
+use Rattle.sv_turns.proofs.Counting.{having_registered}
 use Rattle.sv_turns.proofs.Found.{scanned-grabbed, scanned-obsolete, scanned-registered}
 
 -- a number that has the status is registered with it

@@ -1,5 +1,5 @@
 -- What a call that was not refused met.
-use Rattle.std.proofs.Common.{List, None, Some, ap, arith, cond, refl, suc, sum, sym, zero, ℕ, ◌<◌, ◌∙◌, ◌≡◌}
+use Rattle.std.proofs.Common.{None, Some, ap, arith, cond, suc, sum, sym, zero, ℕ, ◌<◌, ◌∙◌, ◌≡◌}
 use Rattle.std.specs.Prelude.{slice_get}
 use Rattle.std.proofs.lemmas.Bool.{lt-ltb}
 use mathlib.Core.Logic.{dite}
@@ -8,7 +8,6 @@ use Rattle.sv_model.specs.Books.{Books, FileRegister}
 use Rattle.sv_model.specs.Families.{default_name}
 use Rattle.sv_model.specs.Lawful.{Lawful}
 use Rattle.sv_model.specs.declared.records.Family.{Family}
-use Rattle.sv_model.specs.declared.refusals.Refusal.{Refusal}
 use Rattle.sv_model.specs.declared.refusals.Refusal.TheVariants.{Disabled}
 use Rattle.sv_model.proofs.Entries.{some}
 use Rattle.sv_files.specs.Calls.{disabled}
