@@ -3,4 +3,4 @@
 
 mod memtable_register;
 
-pub use memtable_register::{MAX_CELLS, MAX_MEMTABLES, MemtableRegister};
+pub use memtable_register::{MAX_MEMTABLES, MemtableRegister};

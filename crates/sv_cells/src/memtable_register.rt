@@ -10,10 +10,7 @@ ghost use Rattle.sv_cells.specs.Calls.{HaveCells, IsEnded, IsJustMade, IsMade, m
 
 use std::alloc::Global;
 use std::marker::Model;
-use sv_model::{FamilyId, MemId, Memtable, PlacedRegister, Refusal};
-
-/// How many memtables there are at most that are not Gone: each has a cell of its own.
-pub const MAX_CELLS: usize = 64;
+use sv_model::{FamilyId, MAX_CELLS, MemId, Memtable, PlacedRegister, Refusal};
 
 /// The greatest number of memtables ever made.
 pub const MAX_MEMTABLES: usize = 4_294_967_295;

@@ -1,7 +1,7 @@
 // The memtables: their limit, their cells, and what stands of those that ended.
 use std::rt::HostRuntime;
-use sv_cells::{MAX_CELLS, MemtableRegister};
-use sv_model::{FamilyId, MemId, Memtable, Refusal};
+use sv_cells::MemtableRegister;
+use sv_model::{FamilyId, MAX_CELLS, MemId, Memtable, Refusal};
 
 fn make(memtables: &mut MemtableRegister, family: u8, first: u64) -> Result<MemId, Refusal> {
     if memtables.made() >= u32::MAX as u64 {

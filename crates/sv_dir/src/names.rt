@@ -13,7 +13,7 @@ const SUFFIX: &str = ".sst";
 
 const LEAST_DIGITS: usize = 6;
 
-const GREATEST_DIGITS: usize = 12;
+const MAX_DIGITS: usize = 12;
 
 #[tactic(auto, using(crate::proofs::Spelling::digit_is_byte))]
 fn push_digit(name: &mut ArrayString<24>, digit: u8)
@@ -66,7 +66,7 @@ fn is_spelled(digits: &[u8]) -> bool
     }
     match digits.len() {
         LEAST_DIGITS => true,
-        7..=GREATEST_DIGITS => digits[0] != b'0',
+        7..=MAX_DIGITS => digits[0] != b'0',
         _ => false,
     }
 }

@@ -15,7 +15,8 @@ use Rattle.sv_model.proofs.Refusing.{none_due}
 use Rattle.sv_family.specs.Calls.{IsChanged, as_dropped, with_option, with_handle, as_set}
 use Rattle.sv_family.specs.Refused.{change_refusal, has_handle, option_refusal, set_refusal, when}
 use Rattle.sv_family.proofs.Seeking.{own_known}
-use Rattle.sv_family.proofs.Lawful.{lawful_set, get_set, apart_or, some}
+use Rattle.sv_family.proofs.Lawful.{lawful_set, get_set, some}
+use Rattle.sv_model.proofs.Basics.{apart_or}
 
 -- the family at the place that was found, as the code reads it there
 pub record WasRead (Is : Family → Type 0) (families self : List Family) (n id : ℕ) (r : Family) : Type 0 where

@@ -8,16 +8,14 @@ use Rattle.sv_model.specs.declared.refusals.Refusal.TheVariants as refusal
 use Rattle.sv_model.specs.Families.{AreFamilies, AtMostOne, Each, HasHandle, InRange, IsDefault, IsOwn, IsStanding, default_family, first_options}
 use Rattle.sv_model.proofs.Registers.{entry-old, entry-same, entry-else, entry_push, entry_change}
 use Rattle.sv_model.proofs.Refusing.{none_due}
-use Rattle.sv_family.specs.declared.making.TheConstants.{MAX_FAMILIES}
+use Rattle.sv_model.specs.declared.limits.TheConstants.{MAX_FAMILIES}
 use Rattle.sv_family.specs.Calls.{new_family}
 use Rattle.sv_family.specs.Refused.{create_refusal, handle_refusal, has_handle, stands, taken_refusal, when}
 use Rattle.sv_family.proofs.Seeking.{own_known, standing_known}
+use Rattle.sv_model.proofs.Basics.{apart_or}
 
 pub some : {A : Type 0} (x y : A) → Some x ≡ Some y → x ≡ y
 some x y e = cc
-
-pub apart_or : (k n : ℕ) → (k ≡ n) ⊎ (k ≢ n)
-apart_or k n = grind arith
 
 pub get_set : {A : Type 0} (l : List A) (i k : ℕ) (y z : A) → slice_get (set l i y) k ≡ Some z →
     ((k ≡ i) × (z ≡ y)) ⊎ ((k ≢ i) × (slice_get l k ≡ Some z))

@@ -5,6 +5,7 @@ use Rattle.sv_model.specs.declared.settings.OptionName.{OptionName}
 use Rattle.sv_model.specs.declared.settings.Options.{Options}
 use Rattle.sv_model.specs.declared.settings.OptionName.TheVariants.{MemtableRows, MaxImmutable}
 use Rattle.sv_model.specs.Families.{first_options}
+use Rattle.sv_model.specs.declared.limits.TheConstants.{MAX_LANES}
 
 -- the family that a lane makes: it alone has a handle
 abbrev pub new_family : ℕ → List ℕ → Family
@@ -12,7 +13,7 @@ new_family lane name = record {
   name = name;
   options = first_options;
   dropped = false;
-  handles = slice_set (replicate 32 false) lane true;
+  handles = slice_set (replicate MAX_LANES false) lane true;
 }
 
 -- The lane made a family of this name, which has the next id.

@@ -6,7 +6,7 @@ use Rattle.sv_model.specs.declared.records.Family.{Family}
 use Rattle.sv_model.specs.declared.settings.OptionName.{OptionName}
 use Rattle.sv_model.specs.declared.refusals.Refusal.{Refusal}
 use Rattle.sv_model.specs.declared.refusals.Refusal.TheVariants as refusal
-use Rattle.sv_family.specs.declared.making.TheConstants.{MAX_FAMILIES}
+use Rattle.sv_model.specs.declared.limits.TheConstants.{MAX_FAMILIES}
 use Rattle.sv_model.specs.Families.{default_name, greatest_of}
 use Rattle.sv_model.specs.Refusals.{first_due}
 

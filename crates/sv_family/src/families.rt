@@ -7,12 +7,14 @@ ghost use Rattle.sv_model.specs.Refusals.{Refuses, RefusesExactly};
 ghost use Rattle.sv_family.specs.Calls.{IsChanged, IsCreated, as_dropped, as_set, with_handle};
 ghost use Rattle.sv_family.specs.Refused.{change_refusal, create_refusal, drop_refusal, find_refusal, has_handle, open_refusal, release_refusal, set_refusal, stands};
 
-use crate::making::{MAX_FAMILIES, default_family, new_family};
+use crate::making::{default_family, new_family};
 use crate::ranges;
-use crate::sought::{MAX_LANES, is_default, is_retired, place_of_own, place_of_standing};
+use crate::sought::{is_default, is_retired, place_of_own, place_of_standing};
 use std::alloc::Global;
 use std::marker::Model;
-use sv_model::{Family, FamilyId, Name, OptionName, Options, OutOfMemory, Refusal};
+use sv_model::{
+    Family, FamilyId, MAX_FAMILIES, MAX_LANES, Name, OptionName, Options, OutOfMemory, Refusal,
+};
 
 /// The families ever made. Contracts see the list of their records, by id from 0.
 #[derive(Drop)]

@@ -7,6 +7,4 @@ mod ranges;
 mod sought;
 
 pub use families::Families;
-pub use making::MAX_FAMILIES;
-pub use ranges::{MAX_IMMUTABLE, MAX_MEMTABLE_ROWS, with_option};
-pub use sought::MAX_LANES;
+pub use ranges::{MAX_IMMUTABLE, with_option};

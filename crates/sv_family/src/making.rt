@@ -3,12 +3,8 @@ ghost use Rattle.std.specs.Prelude.{◌≡◌, ◌<◌, IfOk};
 ghost use Rattle.sv_model.specs.Families.{default_family};
 ghost use Rattle.sv_family.specs.Calls.{new_family};
 
-use crate::sought::MAX_LANES;
 use std::alloc::Global;
-use sv_model::{Family, Name, Options, OutOfMemory};
-
-/// How many families are made at most, dropped ones included.
-pub const MAX_FAMILIES: usize = 16;
+use sv_model::{Family, MAX_LANES, Name, Options, OutOfMemory};
 
 // The family of which each lane has a handle.
 pub(crate) fn default_family(alloc: Global) -> Result<Family, OutOfMemory>

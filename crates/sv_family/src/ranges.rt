@@ -4,10 +4,7 @@ ghost use Rattle.sv_model.specs.Families.{greatest_of};
 ghost use Rattle.sv_family.specs.Calls.{with_option};
 ghost use Rattle.sv_family.specs.Refused.{option_refusal};
 
-use sv_model::{OptionName, Options, Refusal};
-
-/// The greatest value of `memtable_rows`; the least is 1.
-pub const MAX_MEMTABLE_ROWS: u32 = 65_536;
+use sv_model::{MAX_ROWS, OptionName, Options, Refusal};
 
 /// The greatest value of `max_immutable`; the least is 1.
 pub const MAX_IMMUTABLE: u8 = 8;
@@ -16,7 +13,7 @@ fn greatest(option: OptionName) -> u64
     ensures { result ≡ greatest_of option }
 {
     match option {
-        OptionName::MemtableRows => u64::from(MAX_MEMTABLE_ROWS),
+        OptionName::MemtableRows => u64::from(MAX_ROWS),
         OptionName::MaxImmutable => u64::from(MAX_IMMUTABLE),
     }
 }

@@ -5,10 +5,7 @@ ghost use Rattle.std.specs.Str.{bytes_eq};
 ghost use Rattle.sv_model.specs.Families.{default_name, is_retired};
 ghost use Rattle.sv_family.specs.Refused.{is_own, is_standing};
 
-use sv_model::{Family, Name};
-
-/// How many lanes there are at most.
-pub const MAX_LANES: u8 = 32;
+use sv_model::{Family, MAX_LANES, Name};
 
 pub(crate) fn is_default(name: &Name) -> bool
     ensures { result ≡ bytes_eq name.now default_name }

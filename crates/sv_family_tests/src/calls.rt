@@ -1,7 +1,7 @@
 // The calls by name, for tables of tests.
 use std::alloc::Global;
-use sv_family::{Families, MAX_LANES};
-use sv_model::{FamilyId, Name, OptionName, Options, Refusal};
+use sv_family::Families;
+use sv_model::{FamilyId, MAX_LANES, Name, OptionName, Options, Refusal};
 
 #[derive(Clone, Copy)]
 pub enum Call {

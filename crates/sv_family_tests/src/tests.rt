@@ -5,11 +5,11 @@ use crate::calls::Call::{Create, Drop, Find, Open, Release};
 use crate::calls::{answer, may_retire};
 use std::rt::HostRuntime;
 use std::test::Fail;
-use sv_family::{Families, MAX_FAMILIES};
-use sv_model::FamilyId;
+use sv_family::Families;
 use sv_model::Refusal::{
     AlreadyOpen, Dropped, IsDefault, NameTaken, NoFamily, NotOpen, TooManyFamilies,
 };
+use sv_model::{FamilyId, MAX_FAMILIES};
 
 #[test]
 fn answers_in_turn(rt: HostRuntime) -> Result<(), Fail> {

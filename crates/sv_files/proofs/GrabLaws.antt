@@ -13,6 +13,7 @@ use Rattle.sv_model.specs.Registers.{entry, change}
 use Rattle.sv_model.proofs.Lists.{same_here}
 use Rattle.sv_files.specs.Calls.{grab}
 use Rattle.sv_files.proofs.Registered.{some_is, with_status, registered-at}
+use Rattle.sv_model.proofs.Basics.{none_some}
 
 -- ---- whether a number was found
 abbrev pub is_in : ℕ → List ℕ → Bool
@@ -106,9 +107,6 @@ pub grabbed-entry : (found : List ℕ) (l : List RegisteredFile) (i : ℕ) (y : 
 grabbed-entry found l zero y at = absurd (cc)
 grabbed-entry found l (suc p) y at = by-case (slice_get l p) refl
   where
-    none_some : {A : Type 0} (x : A) → None ≡ Some x → ⊥
-    none_some x e = cc
-
     by-case : (o : Option RegisteredFile) → slice_get l p ≡ o → (x : RegisteredFile) × (slice_get l p ≡ Some x) × (y ≡ grab found x)
     by-case (Some x) e = (x, e, some_is y (grab found x) (sym at ∙ slice_get-map (grab found) l p ∙ ap (option_map (grab found)) e))
     by-case None e = absurd (none_some y (ap (option_map (grab found)) (sym e) ∙ sym (slice_get-map (grab found) l p) ∙ at))

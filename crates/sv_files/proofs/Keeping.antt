@@ -19,7 +19,8 @@ use Rattle.sv_model.specs.Summaries.{is_obsolete}
 use Rattle.sv_model.proofs.Lists.{total-push, total-set}
 use Rattle.sv_model.proofs.Registers.{entry-old, entry-new, entry_push, entry-same, entry-else, entry_change}
 use Rattle.sv_files.specs.Kept.{AreKept, KeepsPositions}
-use Rattle.sv_files.proofs.Registered.{apart_or, some_is, with_status, registered-at, at_registered, status-is, registered-some, obsolete-is, count-le, once_push, once-front, push_is, push-old, push-new, registered_mark, mark_is, mark-other, mark-new}
+use Rattle.sv_files.proofs.Registered.{some_is, with_status, registered-at, at_registered, status-is, registered-some, obsolete-is, count-le, once_push, once-front, push_is, push-old, push-new, registered_mark, mark_is, mark-other, mark-new}
+use Rattle.sv_model.proofs.Basics.{apart_or}
 
 -- ---- the map
 other_key : (k q : ℕ) → k ≢ q → is_eq (nat_cmp k q) ≡ false

@@ -6,16 +6,14 @@ use Rattle.sv_model.specs.declared.records.FileStatus.TheVariants.{Pending, Grab
 use Rattle.sv_model.specs.Numbers.{IsMarked, IsRegistered, NumbersStand, captures, least_captured, registered}
 use Rattle.sv_model.specs.Registers.{entry, change}
 use Rattle.sv_model.proofs.Registers.{entry-old, entry-new, entry_push, entry-same, entry-else, entry_change}
-use Rattle.sv_files.proofs.Registered.{apart_or, some_is, with_status, one_entry, status-is, once_push, registered-at, registered_mark, captures_mark}
+use Rattle.sv_files.proofs.Registered.{some_is, with_status, one_entry, status-is, once_push, registered-at, registered_mark, captures_mark}
+use Rattle.sv_model.proofs.Basics.{apart_or, none_some}
 
 -- ---- the bound
 -- a number is below the bound exactly where it is below each captured number
 pub below-bound : (captured : List (Option ℕ)) (n : ℕ) → n < least_captured captured → (f k : ℕ) → slice_get captured f ≡ Some (Some k) → n < k
 below-bound [] n low f k at = absurd (cc)
 below-bound (None ∷ captured) n low zero k at = absurd (none_some k (some_is None (Some k) at))
-  where
-    none_some : (k : ℕ) → None ≡ Some k → ⊥
-    none_some k e = cc
 below-bound (None ∷ captured) n low (suc f) k at = below-bound captured n low f k at
 below-bound (Some m ∷ captured) n low zero k at = let e = some_is m k (some_is (Some m) (Some k) at) in omega arith
 below-bound (Some m ∷ captured) n low (suc f) k at = below-bound captured n (omega arith) f k at
@@ -120,9 +118,6 @@ module _ (f n : ℕ) (now : FileStatus) (N K : List RegisteredFile) (C : List (O
       ])
       (λ g k e d. others g (λ q. d (some_is k n (some_is (Some k) (Some n) (sym e ∙ ap (slice_get C) q ∙ settled-at)))) ∙ e)
       (λ e. absurd (not_grabbed e))
-    where
-      none_some : (k : ℕ) → None ≡ Some k → ⊥
-      none_some k e = cc
 
 -- ---- a number more
 -- no number from the next one on is registered
@@ -174,9 +169,6 @@ module _ (N : List RegisteredFile) (C : List (Option ℕ)) (next f : ℕ) (law :
     most = omega arith;
   }
     where
-      none_some : (k : ℕ) → None ≡ Some k → ⊥
-      none_some k e = cc
-
       pending_grabbed : Pending ≡ Grabbed → ⊥
       pending_grabbed e = cc
 

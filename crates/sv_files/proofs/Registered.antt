@@ -11,9 +11,7 @@ use Rattle.sv_model.specs.Summaries.{is_obsolete}
 use Rattle.sv_model.proofs.Lists.{total-push, total_at, at_total, same_here, same_other, same_is}
 use Rattle.sv_model.proofs.Registers.{entry-old, entry-new, entry_push, entry-same, entry-else, entry_change}
 use Rattle.sv_files.specs.Kept.{count_obsolete}
-
-pub apart_or : (p q : ℕ) → (p ≡ q) ⊎ (p ≢ q)
-apart_or p q = grind arith
+use Rattle.sv_model.proofs.Basics.{apart_or}
 
 pub some_is : {A : Type 0} (x y : A) → Some x ≡ Some y → x ≡ y
 some_is x y e = cc

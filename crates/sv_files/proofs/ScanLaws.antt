@@ -12,7 +12,8 @@ use Rattle.sv_model.proofs.Lists.{total-append, in_times, times_in, same_here, s
 use Rattle.sv_model.proofs.Registers.{entry-old}
 use Rattle.sv_files.specs.Calls.{IsScanned, IsStray, grab, stray}
 use Rattle.sv_files.specs.Kept.{AddsStrays, FindsStrays, obsolete_stray}
-use Rattle.sv_files.proofs.Registered.{apart_or, some_is, with_status}
+use Rattle.sv_files.proofs.Registered.{some_is, with_status}
+use Rattle.sv_model.proofs.Basics.{apart_or}
 use Rattle.sv_files.proofs.GrabLaws.{in-is, is_in}
 use Rattle.sv_files.proofs.StrayLaws.{registered-with}
 

@@ -11,12 +11,13 @@ use Rattle.sv_model.specs.Lists.{Distinct, In, IsChosen}
 use Rattle.sv_model.specs.Numbers.{AreInOrder, IsMarked, IsReady, IsSettled, captures, least_captured, registered}
 use Rattle.sv_files.specs.declared.settled.Settled.{Settled}
 use Rattle.sv_files.specs.declared.settled.Settled.TheVariants as settled
+use Rattle.sv_model.specs.declared.limits.TheConstants.{MAX_CAPTURED, MAX_FAMILIES, MAX_HOLDS, MAX_LANES, MAX_WRITES}
 
 -- ---- making a book
 
 -- a book of these numbers, with no capture, no hold and no job
 abbrev pub opened : ℕ → List RegisteredFile → FileRegister
-opened next numbers = record { numbers = numbers; captured = replicate 16 None; holds = replicate 32 0; jobs = 0; next = next }
+opened next numbers = record { numbers = numbers; captured = replicate MAX_FAMILIES None; holds = replicate MAX_LANES 0; jobs = 0; next = next }
 
 -- the family's number, which a Version names
 abbrev pub live_file : ℕ × ℕ → RegisteredFile
@@ -24,7 +25,7 @@ live_file f = record { number = f.1; status = status.Live; family = Some f.0 }
 
 -- The numbers differ, and each is at least 1 and below the next one.
 pub record AreNamed (next : ℕ) (files : List (ℕ × ℕ)) : Type 0 where
-  pub few : length files ≤ 262144
+  pub few : length files ≤ MAX_WRITES
   pub apart : Distinct (map (λ (f : ℕ × ℕ). f.1) files)
   pub within : (i : ℕ) (f : ℕ × ℕ) → slice_get files i ≡ Some f → (1 ≤ f.1) × (f.1 < next)
 
@@ -33,7 +34,7 @@ pub record AreNamed (next : ℕ) (files : List (ℕ × ℕ)) : Type 0 where
 -- the refusal that a capture meets: 1,048,576 numbers were captured, or the next one is the greatest of all
 abbrev pub capture_refusal : FileRegister → Option Refusal
 capture_refusal r =
-    if nat_le 1048576 (captures r.numbers) || (r.next == 18446744073709551615) then Some RegisterFull else None
+    if nat_le MAX_CAPTURED (captures r.numbers) || (r.next == 18446744073709551615) then Some RegisterFull else None
 
 -- The next number is registered last as Pending, and is the family's captured number.
 abbrev pub captured_for : FileRegister → ℕ → FileRegister
@@ -57,7 +58,7 @@ pub record Settles (number : ℕ) (now : FileStatus) (old new : FileRegister) : 
 
 -- the refusals that a hold and its end meet
 abbrev pub hold_refusal : ℕ → Option Refusal
-hold_refusal count = if count == 255 then Some TooManyHolds else None
+hold_refusal count = if count == MAX_HOLDS then Some TooManyHolds else None
 
 abbrev pub unhold_refusal : ℕ → Option Refusal
 unhold_refusal count = if count == 0 then Some NoHold else None

@@ -14,16 +14,7 @@ use crate::numbers::Numbers;
 use crate::settled::{Settled, status_of};
 use std::alloc::Global;
 use std::marker::Model;
-use sv_model::{FamilyId, FileNumber, FileStatus, OutOfMemory, Refusal};
-
-/// How many numbers are captured at most.
-pub const MAX_CAPTURED: usize = 1_048_576;
-
-/// How many holds a lane has at most.
-pub const MAX_HOLDS: u8 = 255;
-
-/// How many purges and scans are under way at most: one a lane.
-pub const MAX_JOBS: u32 = 32;
+use sv_model::{FamilyId, FileNumber, FileStatus, MAX_CAPTURED, OutOfMemory, Refusal};
 
 const FAMILIES: usize = 16;
 

@@ -8,5 +8,5 @@ mod numbers;
 mod queue;
 mod settled;
 
-pub use book::{FileBook, MAX_CAPTURED, MAX_HOLDS, MAX_JOBS};
+pub use book::FileBook;
 pub use settled::Settled;

@@ -12,7 +12,7 @@ use Rattle.sv_model.specs.Registers.{entry, EachEntry}
 use Rattle.sv_model.specs.Snapshots.{cut_of, IsClear}
 use Rattle.sv_laws.specs.Snapping.{AreGathered, HasLiveCuts, IsCutOf}
 use Rattle.sv_laws.proofs.GatheredCuts.{cut-left, cut-taken}
-use Rattle.sv_laws.proofs.Items.{some}
+use Rattle.sv_model.proofs.Entries.{some}
 use Rattle.sv_journal.specs.declared.live.LiveSnapshot.{LiveSnapshot}
 use Rattle.sv_journal.specs.Calls.{is_live_cut}
 use Rattle.sv_journal.specs.Kept.{AreLive, snapshot_of}

@@ -10,13 +10,14 @@ use Rattle.sv_model.specs.Registers.{entry, change}
 use Rattle.sv_model.specs.Refusals.{first_due}
 use Rattle.sv_model.specs.Snapshots.{cut_of}
 use Rattle.sv_journal.specs.Seen.{JournalSeen}
+use Rattle.sv_model.specs.declared.limits.TheConstants.{MAX_SNAPSHOTS, MAX_SNAPSHOTS_LIVE, MAX_WRITES}
 
 abbrev pub when : Bool → Refusal → Option Refusal
 when due e = cond due (Some e) None
 
 -- the refusal of a write where the journal takes no more
 abbrev pub journal_refusal : List Write → Option Refusal
-journal_refusal writes = when (nat_le 262144 (length writes)) refusal.JournalFull
+journal_refusal writes = when (nat_le MAX_WRITES (length writes)) refusal.JournalFull
 
 -- ---- snapshots
 
@@ -24,8 +25,8 @@ journal_refusal writes = when (nat_le 262144 (length writes)) refusal.JournalFul
 abbrev pub snap_refusal : List Snapshot → Option Refusal
 snap_refusal snapshots =
     first_due (
-    when (nat_le 1048576 (length snapshots)) refusal.RegisterFull
-    ∷ when (nat_le 64 (total (λ s. bit s.live) snapshots)) refusal.TooManySnapshots
+    when (nat_le MAX_SNAPSHOTS (length snapshots)) refusal.RegisterFull
+    ∷ when (nat_le MAX_SNAPSHOTS_LIVE (total (λ s. bit s.live) snapshots)) refusal.TooManySnapshots
     ∷ []
     )
 

@@ -7,13 +7,10 @@ ghost use Rattle.sv_journal.specs.Calls.{journal_refusal};
 use crate::live::LiveSnapshot;
 use std::alloc::Global;
 use std::marker::Model;
-use sv_model::{FamilyId, OutOfMemory, Snapshot, Write};
+use sv_model::{FamilyId, MAX_WRITES, OutOfMemory, Snapshot, Write};
 
 /// How many families there are at most.
 pub const FAMILIES: usize = 16;
-
-/// How many writes are accepted at most.
-pub const MAX_WRITES: usize = 262_144;
 
 /// The accepted writes in their order, and the snapshots ever made. Contracts see both lists, and beside them for how
 /// many more writes there is room.

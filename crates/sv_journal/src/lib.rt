@@ -6,5 +6,4 @@ mod journal;
 mod live;
 mod snapshots;
 
-pub use journal::{FAMILIES, Journal, MAX_WRITES};
-pub use snapshots::{MAX_SNAPSHOTS, MAX_SNAPSHOTS_LIVE};
+pub use journal::{FAMILIES, Journal};

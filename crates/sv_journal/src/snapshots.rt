@@ -7,13 +7,7 @@ ghost use Rattle.sv_journal.specs.Calls.{IsCutAt, IsSnapped, IsUnsnapped, are_li
 
 use crate::journal::{FAMILIES, Journal};
 use crate::live::{LiveSnapshot, place_of};
-use sv_model::{Cuts, FamilyId, Refusal, Snapshot};
-
-/// How many snapshots are made at most.
-pub const MAX_SNAPSHOTS: usize = 1_048_576;
-
-/// How many snapshots are Live at most.
-pub const MAX_SNAPSHOTS_LIVE: usize = 64;
+use sv_model::{Cuts, FamilyId, MAX_SNAPSHOTS, MAX_SNAPSHOTS_LIVE, Refusal, Snapshot};
 
 impl Journal {
     /// A snapshot more, at the end of the journal. Gives its number and its place. Refused as `RegisterFull` where

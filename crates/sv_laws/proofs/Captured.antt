@@ -2,7 +2,9 @@
 use Rattle.sv_model.specs.Flat.{AreCuts}
 use Rattle.sv_laws.specs.Snapping.{IsClearOfLive}
 use Rattle.sv_model.specs.Snapshots.{IsAwaitedFile}
-use Rattle.sv_laws.proofs.Metas.{drawn, numbers_of-push, captured_numbers-push}
+use Rattle.sv_model.proofs.Metas.{drawn, numbers_of-push, captured_numbers-push}
+use Rattle.sv_model.proofs.Entries.{some, in_append, in-left, in-cons, in-none, in-right, every_push}
+use Rattle.sv_model.proofs.Basics.{none_some}
 use Rattle.std.proofs.Common.{◌≡◌, ◌≢◌, ◌<◌, ◌≤◌, ℕ, zero, suc, ◌+◌, ◌⊎◌, inl, inr, ⊎_elim, List, [], ◌∷◌, ◌++◌, length, Option, Some, None, refl, sym, ap, ◌∙◌, subst, arith}
 use Rattle.std.specs.Prelude.{slice_get, is_some}
 use mathlib.Core.Logic.{dite}
@@ -27,7 +29,6 @@ use Rattle.sv_model.proofs.Lists.{same_other, same-le, total-push}
 use Rattle.sv_model.proofs.Registers.{entry-old, entry-new, entry_push, entry-same, entry-else, entry_change, goes-push, length-change}
 use Rattle.sv_model.proofs.AfterLaws.{number-itself}
 use Rattle.sv_laws.specs.Captures.{IsFileCaptured, IsFlushBegun, IsMergePlanned}
-use Rattle.sv_laws.proofs.Items.{some, in_append, in-left, in-cons, in-none, none_some, in-right, every_push}
 use Rattle.sv_laws.proofs.StillFits.{join-le, join_reach}
 use Rattle.sv_laws.proofs.OpenFamilies.{of_f, says, one-current}
 use Rattle.sv_laws.proofs.FileChanges.{files-changed, awaited-metas}

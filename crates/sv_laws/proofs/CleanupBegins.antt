@@ -14,7 +14,7 @@ use Rattle.sv_model.proofs.Registers.{entry-else, entry_change, goes-same, goes-
 use Rattle.sv_model.proofs.AfterLaws.{memtable-itself, list-itself, version-itself}
 use Rattle.sv_laws.specs.Midst.{Midst, MidstFiles, Frees, EndsList, EndsVersion}
 use Rattle.sv_laws.specs.Cleaning.{Ends}
-use Rattle.sv_laws.proofs.Items.{in-none}
+use Rattle.sv_model.proofs.Entries.{in-none}
 use Rattle.sv_laws.proofs.Registers.{goes-back, has-shrink, has-keep, live-back}
 use Rattle.sv_laws.proofs.EndsLaws.{ends-of}
 use Rattle.sv_laws.proofs.MidstLaws.{member-or-not, file-or-not}

@@ -13,7 +13,7 @@ use Rattle.sv_model.specs.Steady.{Sound}
 use Rattle.sv_model.proofs.Registers.{entry-new}
 use Rattle.sv_laws.specs.NewCurrents.{IsCompacted}
 use Rattle.sv_laws.specs.Installs.{next_top, live_super}
-use Rattle.sv_laws.proofs.Items.{get_one, in-cons, in-none}
+use Rattle.sv_model.proofs.Entries.{get_one, in-cons, in-none}
 use Rattle.sv_laws.proofs.Growing.{placed-set, placed-same}
 use Rattle.sv_laws.proofs.StillFits.{join_reach, files-at}
 use Rattle.sv_laws.proofs.Installed.{installed}

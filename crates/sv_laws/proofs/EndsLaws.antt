@@ -11,7 +11,7 @@ use Rattle.sv_model.specs.Named.{IsLive}
 use Rattle.sv_model.specs.Numbers.{NumbersStand, IsRegistered, captures, captured_numbers}
 use Rattle.sv_laws.specs.Cleaning.{Ends, EndsFiles, TurnsFile}
 use Rattle.sv_laws.proofs.Registers.{goes-back, live-back, total-same}
-use Rattle.sv_laws.proofs.Metas.{captured_numbers-goes}
+use Rattle.sv_model.proofs.Metas.{captured_numbers-goes}
 use Rattle.sv_laws.proofs.Apart.{live_gone, live_pending}
 
 -- What code that only ends things shows: each record goes on, and what is Live is just what is named.

@@ -24,7 +24,8 @@ use Rattle.sv_model.proofs.Registers.{goes-same}
 use Rattle.sv_model.proofs.AfterLaws.{continues-itself, super-itself, memtable-itself, list-itself, version-itself, number-itself, family-itself, snapshot-itself}
 use Rattle.sv_laws.specs.Families.{ChangesFamily}
 use Rattle.sv_laws.specs.Growing.{IsPlaced}
-use Rattle.sv_laws.proofs.Items.{some, none_some}
+use Rattle.sv_model.proofs.Entries.{some}
+use Rattle.sv_model.proofs.Basics.{none_some}
 use Rattle.sv_laws.proofs.Growing.{placed_get, placed-goes, placed-set}
 
 not-dropped : (b c : Bool) → (b ≡ true → c ≡ true) → c ≡ false → b ≡ false

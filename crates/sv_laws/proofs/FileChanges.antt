@@ -13,7 +13,7 @@ use Rattle.sv_model.proofs.Registers.{goes-same}
 use Rattle.sv_model.proofs.AfterLaws.{continues-itself, super-itself, memtable-itself, list-itself, version-itself, number-itself, family-itself, snapshot-itself}
 use Rattle.sv_laws.specs.Captures.{ChangesFiles}
 use Rattle.sv_laws.proofs.StillFits.{describes-on, last-on, awaited-on}
-use Rattle.sv_laws.proofs.Items.{in-left}
+use Rattle.sv_model.proofs.Entries.{in-left}
 
 in-continues : (X Y : List FileMeta) → Continues X Y → (m : FileMeta) → In m X → In m Y
 in-continues X Y c m i = subst (In m) (sym c.1) (in-left m X c.0 i)

@@ -20,7 +20,7 @@ use Rattle.sv_model.specs.Steady.{Sound}
 use Rattle.sv_model.proofs.Registers.{entry-new, entry_push}
 use Rattle.sv_laws.specs.NewCurrents.{IsFlushed}
 use Rattle.sv_laws.specs.Installs.{next_top, live_super}
-use Rattle.sv_laws.proofs.Items.{some, every_push, in-cons, in-none, in-right, in_append}
+use Rattle.sv_model.proofs.Entries.{some, every_push, in-cons, in-none, in-right, in_append}
 use Rattle.sv_laws.proofs.Growing.{placed-set, placed-same}
 use Rattle.sv_laws.proofs.StillFits.{join-le, file-on, files-join-push, join_reach, files-at}
 use Rattle.sv_laws.proofs.Installed.{installed}

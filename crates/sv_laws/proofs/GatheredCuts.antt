@@ -10,7 +10,7 @@ use Rattle.sv_model.specs.Snapshots.{cut_of}
 use Rattle.sv_model.proofs.Lists.{total-push}
 use Rattle.sv_model.proofs.Registers.{entry_push}
 use Rattle.sv_laws.specs.Snapping.{AreGathered, HasLiveCuts, IsCutOf}
-use Rattle.sv_laws.proofs.Items.{in-none, in-cons, in-suc, in-left, in-right, in_append, entry_none, has-old, has-new}
+use Rattle.sv_model.proofs.Entries.{in-none, in-cons, in-suc, in-left, in-right, in_append, entry_none, has-old, has-new}
 use Rattle.sv_laws.proofs.CutLaws.{cut-ascend}
 use Rattle.sv_laws.proofs.Apart.{false_true}
 

@@ -15,7 +15,7 @@ use Rattle.sv_model.specs.Steady.{Sound}
 use Rattle.sv_model.proofs.Lists.{same_other, total-push}
 use Rattle.sv_model.proofs.AfterLaws.{after-itself, after-through}
 use Rattle.sv_laws.specs.Purges.{IsPurgeStep}
-use Rattle.sv_laws.proofs.Items.{some, in-suc}
+use Rattle.sv_model.proofs.Entries.{some, in-suc}
 use Rattle.sv_laws.proofs.Settled.{marked-else, marked-here}
 use Rattle.sv_laws.proofs.Purged.{strayed}
 

@@ -8,7 +8,7 @@ use Rattle.sv_model.specs.Lists.{total}
 use Rattle.sv_model.proofs.Registers.{entry-old, entry_push, entry_le, entry-same, entry-else}
 use Rattle.sv_model.proofs.Lists.{total-push}
 use Rattle.sv_laws.specs.Growing.{Grows, IsPlaced}
-use Rattle.sv_laws.proofs.Items.{some}
+use Rattle.sv_model.proofs.Entries.{some}
 
 module _ {A : Type 0} (P : ℕ → A → Type 0) (a b : List A) where
   -- an entry is an old one, or the new one
@@ -62,11 +62,6 @@ module _ {A : Type 0} (a b : List A) (f : ℕ) (x : A) (p : IsPlaced a b f x) wh
 
 pub get_within : {A : Type 0} (l : List A) (n : ℕ) (x : A) → slice_get l n ≡ Some x → n < length l
 get_within l n x e = (entry_le l (suc n) x e).1
-
-pub get-some : {A : Type 0} (l : List A) (n : ℕ) → n < length l → (x : A) × (slice_get l n ≡ Some x)
-get-some [] n h = absurd (omega arith)
-get-some (x ∷ l) zero h = (x, refl)
-get-some (x ∷ l) (suc n) h = get-some l n (omega arith)
 
 pub placed-set : {A : Type 0} (l : List A) (f : ℕ) (z y : A) → slice_get l f ≡ Some z → IsPlaced l (set l f y) f y
 placed-set l f z y e = record {

@@ -10,8 +10,9 @@ use Rattle.sv_model.specs.Families.{is_retired}
 use Rattle.sv_model.specs.Steady.{Sound}
 use Rattle.sv_model.proofs.Lists.{total_at}
 use Rattle.sv_laws.specs.Families.{IsDropped, IsOpened, IsReleased, IsRetired, IsCurrentEnded, released}
-use Rattle.sv_laws.proofs.Items.{some}
-use Rattle.sv_laws.proofs.Growing.{get_within, get-some}
+use Rattle.sv_model.proofs.Entries.{some}
+use Rattle.sv_model.proofs.Registers.{get-some}
+use Rattle.sv_laws.proofs.Growing.{get_within}
 use Rattle.sv_laws.proofs.FamilyChanges.{family-changed}
 use Rattle.sv_laws.proofs.Apart.{false_true}
 

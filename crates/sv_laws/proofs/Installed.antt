@@ -23,7 +23,8 @@ use Rattle.sv_model.proofs.Lists.{total-push}
 use Rattle.sv_model.proofs.Registers.{entry-old, entry-new, entry_push, entry_le, goes-same, goes-push, length-change}
 use Rattle.sv_model.proofs.AfterLaws.{continues-itself, super-itself, family-itself, snapshot-itself}
 use Rattle.sv_laws.specs.Installs.{Installs, IsNewMemtable, IsNewList, IsNewVersion}
-use Rattle.sv_laws.proofs.Items.{some, none_some}
+use Rattle.sv_model.proofs.Entries.{some}
+use Rattle.sv_model.proofs.Basics.{none_some}
 use Rattle.sv_laws.proofs.Growing.{grown_entry, grown-old, grown-longer, grown-shorter, grown-total, placed_get, placed-goes, get_within}
 use Rattle.sv_laws.proofs.Settled.{settled-captured}
 use Rattle.sv_laws.proofs.StillFits.{awaited-on, reach-on, join_in}

@@ -1,9 +1,6 @@
 pub mod Apart
-pub mod Items
 pub mod Growing
 pub mod Registers
-pub mod Metas
-pub mod PassedRows
 pub mod BorneRows
 pub mod Settled
 pub mod StillFits

@@ -17,9 +17,9 @@ use Rattle.sv_model.proofs.Lists.{times_in, in_times}
 use Rattle.sv_model.proofs.Registers.{entry-same, entry-else, entry_change, entry_push, total_entry, has_total, goes-change, goes-on, length-change}
 use Rattle.sv_model.proofs.AfterLaws.{memtable-itself}
 use Rattle.sv_model.proofs.NumberLaws.{one_entry}
+use Rattle.sv_model.proofs.Entries.{some, in-cons, in-none, in-left, in-right, in_append}
 use Rattle.sv_laws.specs.Midst.{Midst, MidstFiles}
 use Rattle.sv_laws.specs.Cleaning.{Went, Ends, EndsFiles}
-use Rattle.sv_laws.proofs.Items.{some, in-cons, in-none, in-left, in-right, in_append}
 use Rattle.sv_laws.proofs.Settled.{marked_entry}
 use Rattle.sv_laws.proofs.Registers.{goes-back, live-back, total-same}
 use Rattle.sv_laws.proofs.EndsLaws.{ends-of}

@@ -20,8 +20,8 @@ use Rattle.sv_model.specs.Steady.{Sound, IsCurrent}
 use Rattle.sv_model.proofs.Registers.{entry-else, total-change, goes-change}
 use Rattle.sv_model.proofs.AfterLaws.{memtable-itself}
 use Rattle.sv_model.proofs.NumberLaws.{one_entry}
+use Rattle.sv_model.proofs.Entries.{some, in-cons, in-suc, in-none, in_append}
 use Rattle.sv_laws.specs.Installs.{IsOpen}
-use Rattle.sv_laws.proofs.Items.{some, in-cons, in-suc, in-none, in_append}
 use Rattle.sv_laws.proofs.StillFits.{join-on, join-append, join_reach}
 use Rattle.sv_laws.proofs.OpenFamilies.{current-top, says, member, active-lives}
 use Rattle.sv_laws.proofs.Apart.{pending_live}

@@ -19,8 +19,10 @@ use Rattle.sv_model.specs.Families.{is_retired, InRange, default_name, first_opt
 use Rattle.sv_model.specs.Described.{Describes, IsFileOf}
 use Rattle.sv_model.specs.Steady.{Sound}
 use Rattle.sv_model.specs.Openings.{IsOpening, first_super, first_memtable, opening_books}
-use Rattle.sv_laws.proofs.Items.{some, in-none, get_one, none_some, every_none, entry_none, get_none, entry_one}
-use Rattle.sv_laws.proofs.Growing.{get_within, get-some}
+use Rattle.sv_model.proofs.Entries.{some, in-none, get_one, every_none, entry_none, get_none, entry_one}
+use Rattle.sv_model.proofs.Basics.{none_some}
+use Rattle.sv_model.proofs.Registers.{get-some}
+use Rattle.sv_laws.proofs.Growing.{get_within}
 use Rattle.sv_laws.proofs.BorneRows.{unborne}
 
 bits : {A : Type 0} (live : A → Bool) (l : List A) → total (λ x. bit (live x)) l ≤ length l

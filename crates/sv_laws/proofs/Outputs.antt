@@ -17,11 +17,11 @@ use Rattle.sv_model.specs.Described.{FilesStand, IsFileOf}
 use Rattle.sv_model.specs.Steady.{Sound, IsFlush, IsMerge, IsAwaited}
 use Rattle.sv_model.proofs.Registers.{entry-new, entry-same}
 use Rattle.sv_laws.specs.Installs.{next_top, IsOpen}
-use Rattle.sv_laws.proofs.Items.{some, none_some}
+use Rattle.sv_model.proofs.Entries.{some}
+use Rattle.sv_model.proofs.Basics.{none_some}
+use Rattle.sv_model.proofs.Metas.{captured-goes, one-meta}
 use Rattle.sv_laws.proofs.Settled.{marked-goes, marked-keeps, marked-here, settled-captured}
-use Rattle.sv_laws.proofs.Metas.{captured-goes}
 use Rattle.sv_laws.proofs.OpenFamilies.{of_f, says, version-lives}
-use Rattle.sv_laws.proofs.Metas.{one-meta}
 use Rattle.sv_model.specs.Snapshots.{IsLastFile, IsAwaitedFile}
 use Rattle.sv_laws.proofs.Apart.{live_pending, pending_gone, true_false}
 

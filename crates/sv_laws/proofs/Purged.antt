@@ -1,5 +1,5 @@
 -- Numbers are grabbed and given back; strays; holds and jobs.
-use Rattle.sv_laws.proofs.Metas.{captured_numbers-goes, captured_numbers-push}
+use Rattle.sv_model.proofs.Metas.{captured_numbers-goes, captured_numbers-push}
 use Rattle.std.proofs.Common.{◌≡◌, ℕ, ◌⊎◌, inl, inr, ⊎_elim, [], ◌∷◌, ◌++◌, Some, None, refl, sym, ap, ◌∙◌, subst, arith, append-nil}
 use Rattle.std.specs.Prelude.{is_some}
 use mathlib.Core.Logic.{dite}

@@ -4,15 +4,10 @@ use mathlib.Core.Logic.{dite}
 use native.Mathlib.Decide.{ℕ_discrete}
 use Rattle.sv_model.specs.Lists.{total}
 use Rattle.sv_model.specs.Registers.{entry, change, Has, GoesOn}
-use Rattle.sv_model.proofs.Registers.{entry-else, entry_change, entry_le}
-use Rattle.sv_laws.proofs.Items.{some}
-use Rattle.sv_laws.proofs.Growing.{get-some}
+use Rattle.sv_model.proofs.Registers.{entry-else, entry_change, entry_le, get-some, entry-some, goes-rest}
+use Rattle.sv_model.proofs.Entries.{some}
 
 -- a record that is there now was there before
-pub entry-some : {A : Type 0} (l : List A) (n : ℕ) → 0 < n → n ≤ length l → (x : A) × (entry l n ≡ Some x)
-entry-some l zero p q = absurd (omega arith)
-entry-some l (suc n) p q = get-some l n (omega arith)
-
 pub goes-back : {A : Type 0} (R : A → A → Type 0) (a b : List A) → GoesOn R a b → length b ≡ length a
     → (n : ℕ) (y : A) → entry b n ≡ Some y → (x : A) × (entry a n ≡ Some x) × R x y
 goes-back R a b g q n y e =
@@ -37,10 +32,6 @@ has-keep P l n x y e h =
 pub live-back : (b c : Bool) → (b ≡ false → c ≡ false) → c ≡ true → b ≡ true
 live-back true c h e = refl
 live-back false c h e = let f : c ≡ false = h refl in absurd (cc)
-
-pub goes-rest : {A : Type 0} (R : A → A → Type 0) (x y : A) (a b : List A) → GoesOn R (x ∷ a) (y ∷ b) → GoesOn R a b
-goes-rest R x y a b g zero z e = absurd (cc)
-goes-rest R x y a b g (suc n) z e = g (suc (suc n)) z e
 
 -- sums over records that are related
 pub total-le : {A : Type 0} (R : A → A → Type 0) (w : A → ℕ) → ((x y : A) → R x y → w y ≤ w x) → (a b : List A)

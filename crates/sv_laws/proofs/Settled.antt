@@ -12,8 +12,9 @@ use Rattle.sv_model.specs.Books.{FileRegister}
 use Rattle.sv_model.proofs.Registers.{entry-same, entry-else, entry_change, total-change, goes-change}
 use Rattle.sv_model.proofs.AfterLaws.{number-itself}
 use Rattle.sv_model.proofs.NumberLaws.{one_entry}
-use Rattle.sv_laws.proofs.Items.{some}
-use Rattle.sv_laws.proofs.Metas.{captured_numbers-change}
+use Rattle.sv_model.proofs.Entries.{some}
+use Rattle.sv_model.proofs.Metas.{captured_numbers-change}
+use Rattle.sv_model.proofs.Basics.{none_some}
 
 module _ (n : ℕ) (was now : FileStatus) (N K : List RegisteredFile) (m : IsMarked n was now N K) where
   abbrev pub y : RegisteredFile
@@ -106,16 +107,13 @@ module _ (f n : ℕ) (now : FileStatus) (a b : FileRegister) (h : IsSettled f n 
       ap (λ (l : List (Option ℕ)). slice_get l g) settled-captured
       ∙ entry-else a.captured (suc f) (suc g) None (λ q. d (omega (arith, q)))
 
-  none_some : {A : Type 0} (k : A) → Some k ≡ None → ⊥
-  none_some k e = absurd (cc)
-
   some_some : {A : Type 0} (k l : A) → Some (Some k) ≡ Some (Some l) → k ≡ l
   some_some k l e = some (some e)
 
   pub settled_other : (g k : ℕ) → slice_get b.captured g ≡ Some (Some k)
       → (g ≢ f) × (slice_get a.captured g ≡ Some (Some k))
   settled_other g k e = ⊎_elim
-      (λ q. absurd (none_some k q.1))
+      (λ q. absurd (none_some k (sym q.1)))
       (λ q. (λ o. q.0 (ap suc o), q.1))
       (entry_change a.captured (suc f) (suc g) None (Some k) (ap (λ (l : List (Option ℕ)). slice_get l g) (sym settled-captured) ∙ e))
 

@@ -17,7 +17,7 @@ use Rattle.sv_model.proofs.Lists.{total-push}
 use Rattle.sv_model.proofs.Registers.{entry_push, entry_change, total-change, goes-push, goes-change, length-change}
 use Rattle.sv_model.proofs.AfterLaws.{after-itself, snapshot-itself}
 use Rattle.sv_laws.specs.Snapping.{IsSnapped, IsUnsnapped}
-use Rattle.sv_laws.proofs.Items.{some}
+use Rattle.sv_model.proofs.Entries.{some}
 use Rattle.sv_laws.proofs.Apart.{false_true}
 
 join-within : (files : List FileMeta) (from to : ℕ) → FilesJoin from files to

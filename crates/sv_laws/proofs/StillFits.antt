@@ -16,8 +16,8 @@ use Rattle.sv_model.specs.After.{KeepsMemtable, KeepsList, KeepsVersion, KeepsNu
 use Rattle.sv_model.specs.Books.{files_of}
 use Rattle.sv_model.specs.Described.{IsFileOf, FilesStand, MembersJoin, Describes, LastFits}
 use Rattle.sv_model.specs.Steady.{IsAwaited}
-use Rattle.sv_laws.proofs.Items.{in-suc, in-cons, in-none}
-use Rattle.sv_laws.proofs.Metas.{captured-goes}
+use Rattle.sv_model.proofs.Entries.{in-suc, in-cons, in-none}
+use Rattle.sv_model.proofs.Metas.{captured-goes}
 
 pub join-on : (J : List Write) (M N : List Memtable) → GoesOn KeepsMemtable M N → (f : ℕ) (ms : List ℕ) (from to : ℕ)
     → MembersJoin J M f from ms to → MembersJoin J N f from ms to

@@ -15,7 +15,7 @@ use Rattle.sv_model.proofs.Registers.{entry-new, entry_le, goes-push}
 use Rattle.sv_model.proofs.AfterLaws.{memtable-itself}
 use Rattle.sv_laws.specs.NewCurrents.{IsSwitched}
 use Rattle.sv_laws.specs.Installs.{next_top, live_super}
-use Rattle.sv_laws.proofs.Items.{some, in_append, in-cons, in-none}
+use Rattle.sv_model.proofs.Entries.{some, in_append, in-cons, in-none}
 use Rattle.sv_laws.proofs.StillFits.{join-on, join-append}
 use Rattle.sv_laws.proofs.Installed.{installed}
 use Rattle.sv_laws.proofs.Growing.{placed-set, placed-same}

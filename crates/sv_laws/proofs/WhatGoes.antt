@@ -15,7 +15,7 @@ use Rattle.sv_model.specs.Numbers.{IsRegistered}
 use Rattle.sv_model.specs.Lawful.{Lawful}
 use Rattle.sv_model.specs.Steady.{Sound}
 use Rattle.sv_laws.specs.Cleaning.{IsCleaned, Went}
-use Rattle.sv_laws.proofs.Items.{some}
+use Rattle.sv_model.proofs.Entries.{some}
 use Rattle.sv_laws.proofs.Registers.{goes-back, has-keep, live-back}
 use Rattle.sv_laws.proofs.EndsLaws.{files-live}
 

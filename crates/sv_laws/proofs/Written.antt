@@ -22,7 +22,7 @@ use Rattle.sv_model.specs.Steady.{Sound, IsCurrent, IsAwaited, IsBorne}
 use Rattle.sv_model.proofs.Registers.{goes-same, entry_le}
 use Rattle.sv_model.proofs.AfterLaws.{continues-itself, super-itself, memtable-itself, list-itself, version-itself, number-itself, family-itself, snapshot-itself}
 use Rattle.sv_laws.specs.Writes.{IsWritten}
-use Rattle.sv_laws.proofs.Items.{some, get_push, in-left}
+use Rattle.sv_model.proofs.Entries.{some, get_push, in-left}
 use Rattle.sv_laws.proofs.BorneRows.{borne-other, borne-same, family-same, family-other, rows-stand-any, rows-grow}
 use Rattle.sv_laws.proofs.StillFits.{join-still}
 use Rattle.sv_laws.proofs.OpenFamilies.{of_f, says, ends-at}

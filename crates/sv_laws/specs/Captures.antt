@@ -18,6 +18,7 @@ use Rattle.sv_model.specs.Snapshots.{IsAwaitedFile}
 use Rattle.sv_model.specs.Steady.{IsCurrent, IsAwaited}
 use Rattle.sv_laws.specs.Installs.{IsOpen}
 use Rattle.sv_laws.specs.Snapping.{HasLiveCuts, IsClearOfLive}
+use Rattle.sv_model.specs.declared.limits.TheConstants.{MAX_CAPTURED, MAX_FAMILIES, MAX_HOLDS, MAX_JOBS, MAX_LANES}
 
 -- Only file numbers, what they cover, holds and jobs changed, and each law of them stands. The same numbers are Live.
 pub record ChangesFiles (a b : Books) : Type 0 where
@@ -28,11 +29,11 @@ pub record ChangesFiles (a b : Books) : Type 0 where
   pub cuts : Every (λ m. AreCuts m.from m.to m.bottom.cuts) b.metas
   pub next : a.files.next ≤ b.files.next
   pub live : (n : ℕ) → IsRegistered a.files.numbers n Live ↔ IsRegistered b.files.numbers n Live
-  pub few : captures b.files.numbers ≤ 1048576
-  pub holds : Every (λ h. h ≤ 255) b.files.holds
-  pub lanes : length b.files.holds ≡ 32
-  pub jobs : b.files.jobs ≤ 32
-  pub families : length b.files.captured ≡ 16
+  pub few : captures b.files.numbers ≤ MAX_CAPTURED
+  pub holds : Every (λ h. h ≤ MAX_HOLDS) b.files.holds
+  pub lanes : length b.files.holds ≡ MAX_LANES
+  pub jobs : b.files.jobs ≤ MAX_JOBS
+  pub families : length b.files.captured ≡ MAX_FAMILIES
   pub busy : (f n : ℕ) → slice_get b.files.captured f ≡ Some (Some n) → f < length a.families
   pub covers : (f n : ℕ) (m : FileMeta) → slice_get b.files.captured f ≡ Some (Some n) → In m b.metas → m.number ≡ n
       → m.to ≤ length (of_family f a.journal)
@@ -46,7 +47,7 @@ pub record ChangesFiles (a b : Books) : Type 0 where
 pub record IsFileCaptured (a b : Books) (f : ℕ) (file : FileMeta) : Type 0 where
   pub number_is : file.number ≡ a.files.next
   pub idle : slice_get a.files.captured f ≡ Some None
-  pub few : captures a.files.numbers < 1048576
+  pub few : captures a.files.numbers < MAX_CAPTURED
   pub more : a.files.next < 18446744073709551615
   pub cuts : HasLiveCuts a.journal a.snapshots f file
   pub is : b ≡ record a {

@@ -22,6 +22,7 @@ use Rattle.sv_model.specs.Snapshots.{IsLastFile, IsAwaitedFile}
 use Rattle.sv_model.specs.Described.{Describes}
 use Rattle.sv_model.specs.Steady.{IsCurrent, IsAwaited}
 use Rattle.sv_laws.specs.Growing.{Grows, IsPlaced}
+use Rattle.sv_model.specs.declared.limits.TheConstants.{MAX_CELLS, MAX_FAMILIES, MAX_LANES, MAX_PLACES, MAX_SUPERS}
 
 -- the family is not dropped, and has this current
 pub record IsOpen (a : Books) (f s : ℕ) (c : SuperVersion) : Type 0 where
@@ -32,15 +33,15 @@ pub record IsOpen (a : Books) (f s : ℕ) (c : SuperVersion) : Type 0 where
 
 -- one SuperVersion more may be made, at this place
 pub record HasRoom (supers : List SuperVersion) (place : ℕ) : Type 0 where
-  pub few : length supers < 1048576
-  pub few_live : total (λ s. bit s.live) supers < 256
-  pub within : place < 256
+  pub few : length supers < MAX_SUPERS
+  pub few_live : total (λ s. bit s.live) supers < MAX_PLACES
+  pub within : place < MAX_PLACES
   pub free : EachEntry (λ k s. s.live ≡ true → s.place ≡ place → ⊥) supers
 
 -- one memtable more may be Live, in this cell
 pub record HasCell (memtables : List Memtable) (cell : ℕ) : Type 0 where
-  pub few : total (λ m. bit m.live) memtables < 64
-  pub within : cell < 64
+  pub few : total (λ m. bit m.live) memtables < MAX_CELLS
+  pub within : cell < MAX_CELLS
   pub free : EachEntry (λ k m. m.live ≡ true → m.cell ≡ cell → ⊥) memtables
 
 abbrev pub live_super : Descriptor → ℕ → SuperVersion
@@ -115,11 +116,11 @@ pub record Installs (a b : Books) (f : ℕ) (r : Family) (x : SuperVersion) : Ty
   pub tops : IsPlaced a.tops b.tops f (next_top a x.descriptor.version)
   pub paired : length b.tops ≡ length b.families
   pub more : length a.families ≤ length b.families
-  pub few_families : length b.families ≤ 16
+  pub few_families : length b.families ≤ MAX_FAMILIES
   pub stands : r.dropped ≡ false
   pub options_are : r.options ≡ x.descriptor.options
   pub in_range : InRange r.options
-  pub handles : length r.handles ≡ 32
+  pub handles : length r.handles ≡ MAX_LANES
   pub name_free : (g : ℕ) (y : Family) → g ≢ f → slice_get a.families g ≡ Some y → y.dropped ≡ false → r.name ≡ y.name
       → ⊥
   -- Where the family was there before, it had a current, whose place the new one takes.

@@ -16,6 +16,7 @@ use Rattle.sv_model.specs.Books.{Books}
 use Rattle.sv_model.specs.Families.{InRange}
 use Rattle.sv_model.specs.Numbers.{IsSettled}
 use Rattle.sv_laws.specs.Installs.{IsOpen, HasRoom, HasCell, live_super, next_top}
+use Rattle.sv_model.specs.declared.limits.TheConstants.{MAX_FAMILIES, MAX_LANES}
 
 -- The family's options are others.
 pub record IsOptionSet (a b : Books) (f : ℕ) (o : Options) : Type 0 where
@@ -104,10 +105,10 @@ pub record IsFamilyMade (a b : Books) (r : Family) : Type 0 where
   pub room : HasRoom a.supers place
   pub cell : ℕ
   pub cell_room : HasCell a.memtables cell
-  pub few : length a.families < 16
+  pub few : length a.families < MAX_FAMILIES
   pub stands : r.dropped ≡ false
   pub in_range : InRange r.options
-  pub handles : length r.handles ≡ 32
+  pub handles : length r.handles ≡ MAX_LANES
   pub name_free : (g : ℕ) (y : Family) → slice_get a.families g ≡ Some y → y.dropped ≡ false → r.name ≡ y.name → ⊥
   pub is : b ≡ record a {
     supers = a.supers ++ live_super (record { family = length a.families; active = length a.memtables + 1; list = length a.lists + 1; version = length a.versions + 1; base = 0; options = r.options }) place ∷ [];

@@ -6,6 +6,7 @@ use Rattle.sv_model.specs.Lists.{Every}
 use Rattle.sv_model.specs.Registers.{GoesOn}
 use Rattle.sv_model.specs.Books.{Books}
 use Rattle.sv_model.specs.Numbers.{registered}
+use Rattle.sv_model.specs.declared.limits.TheConstants.{MAX_HOLDS, MAX_JOBS, MAX_LANES}
 
 -- An Obsolete number below each captured one is Grabbed, or a Grabbed one is Gone or Obsolete again.
 pub record IsPurgeStep (captured : List (Option ℕ)) (x y : RegisteredFile) : Type 0 where
@@ -17,7 +18,7 @@ pub record IsPurgeStep (captured : List (Option ℕ)) (x y : RegisteredFile) : T
 pub record ChangesGrabbed (a b : Books) : Type 0 where
   pub long : length b.files.numbers ≡ length a.files.numbers
   pub goes : GoesOn (λ x y. (y ≡ x) ⊎ IsPurgeStep a.files.captured x y) a.files.numbers b.files.numbers
-  pub jobs : b.files.jobs ≤ 32
+  pub jobs : b.files.jobs ≤ MAX_JOBS
   pub is : b ≡ record a { files = record a.files { numbers = b.files.numbers; jobs = b.files.jobs } }
 
 -- A number that a scan listed, which was not registered, is Grabbed, as a stray.
@@ -31,7 +32,7 @@ pub record IsStray (a b : Books) (n : ℕ) : Type 0 where
 
 -- Holds and jobs changed.
 pub record ChangesHolds (a b : Books) : Type 0 where
-  pub holds : Every (λ h. h ≤ 255) b.files.holds
-  pub lanes : length b.files.holds ≡ 32
-  pub jobs : b.files.jobs ≤ 32
+  pub holds : Every (λ h. h ≤ MAX_HOLDS) b.files.holds
+  pub lanes : length b.files.holds ≡ MAX_LANES
+  pub jobs : b.files.jobs ≤ MAX_JOBS
   pub is : b ≡ record a { files = record a.files { holds = b.files.holds; jobs = b.files.jobs } }

@@ -9,6 +9,7 @@ use Rattle.sv_model.specs.Registers.{entry, change, Has, EachEntry}
 use Rattle.sv_model.specs.Snapshots.{cut_of, IsClear, IsLastFile, IsAwaitedFile}
 use Rattle.sv_model.specs.After.{Continues}
 use Rattle.sv_model.specs.Books.{Books}
+use Rattle.sv_model.specs.declared.limits.TheConstants.{MAX_SNAPSHOTS, MAX_SNAPSHOTS_LIVE}
 
 -- the snapshot is Live, and this is its cut for the family
 pub record IsCutOf (journal : List Write) (family cut : ℕ) (s : Snapshot) : Type 0 where
@@ -41,8 +42,8 @@ pub record KeepsCuts (a b : Books) : Type 0 where
 
 -- a snapshot more, which reads what all writes so far leave
 pub record IsSnapped (a b : Books) : Type 0 where
-  pub few_live : total (λ s. bit s.live) a.snapshots < 64
-  pub few : length a.snapshots < 1048576
+  pub few_live : total (λ s. bit s.live) a.snapshots < MAX_SNAPSHOTS_LIVE
+  pub few : length a.snapshots < MAX_SNAPSHOTS
   pub is : b ≡ record a { snapshots = a.snapshots ++ record { at = length a.journal; live = true } ∷ [] }
 
 -- a Live snapshot is Gone

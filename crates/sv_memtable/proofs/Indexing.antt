@@ -18,7 +18,7 @@ use Rattle.sv_model.specs.Journal.{same_key, newest_row}
 use Rattle.sv_model.specs.Order.{key_of_numbered, number_of}
 use Rattle.sv_model.specs.Registers.{entry}
 use Rattle.sv_model.proofs.KeyOrder.{same_eq}
-use Rattle.sv_memtable.specs.declared.cells.TheConstants.{MAX_ROWS}
+use Rattle.sv_model.specs.declared.limits.TheConstants.{MAX_ROWS}
 use Rattle.sv_memtable.specs.Index.{numbers_of_key, numbers_at, IsIndexed, Notes, LeadsAsBefore}
 use Rattle.sv_memtable.proofs.NumberedRows.{find_last, find-reverse, if_last, last_of_chosen, is_upto, newest_among, Bears, all_bear, LeadsBack, all_lead_back, numbered-push}
 

@@ -10,7 +10,7 @@ use Rattle.sv_model.specs.Flat.{numbered_after}
 use Rattle.sv_model.specs.Journal.{same_key}
 use Rattle.sv_model.specs.Order.{key_of_numbered, number_of}
 use Rattle.sv_model.specs.Registers.{entry}
-use Rattle.sv_memtable.specs.declared.cells.TheConstants.{MAX_ROWS}
+use Rattle.sv_model.specs.declared.limits.TheConstants.{MAX_ROWS}
 
 -- the numbers of the rows of a key, ascending
 abbrev pub numbers_of_key : List ℕ → List Row → List ℕ

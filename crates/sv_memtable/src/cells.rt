@@ -11,10 +11,7 @@ use crate::numbers::Numbers;
 use std::alloc::Global;
 use std::collections::BTreeMap;
 use std::marker::Model;
-use sv_model::{Key, MemId, Numbered, Op, OutOfMemory, Row};
-
-/// The greatest number of rows of a memtable.
-pub const MAX_ROWS: u32 = 65_536;
+use sv_model::{Key, MAX_ROWS, MemId, Numbered, Op, OutOfMemory, Row};
 
 /// An open memtable: its rows in the order in which they were added, which numbers them from 1, beside an ordered map
 /// from each key to the numbers of its rows. So a look-up is one search of the map, and one of the key's numbers where

@@ -5,5 +5,5 @@ mod cells;
 mod frozen;
 mod numbers;
 
-pub use cells::{MAX_ROWS, MemCell};
+pub use cells::MemCell;
 pub use frozen::Frozen;

@@ -2,8 +2,8 @@
 // with a row added between.
 use std::alloc::Global;
 use std::test::*;
-use sv_memtable::{Frozen, MAX_ROWS, MemCell};
-use sv_model::{Key, MemId, Numbered, Op, Value};
+use sv_memtable::{Frozen, MemCell};
+use sv_model::{Key, MAX_ROWS, MemId, Numbered, Op, Value};
 
 /// What stands under a key: no row, a delete, or a value by its first byte.
 #[derive(Clone, Copy, Debug, PartialEq, Eq)]

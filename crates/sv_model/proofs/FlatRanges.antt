@@ -75,23 +75,6 @@ range_whole journal family from cut to p q = take_all (cut - from) (range_of jou
 no_part : (m b : ℕ) → rows_of (drop m (take b nothing)) ≡ []
 no_part m b = ap rows_of (part_none m b)
 
-parts_join : (ws : List Write) (a m b : ℕ) → a ≤ m → m ≤ b
-    → drop a (take m ws) ++ drop m (take b ws) ≡ drop a (take b ws)
-parts_join [] a m b p q = (λ i. part_none a m i ++ part_none m b i) ∙ sym (part_none a b)
-parts_join (w ∷ ws) zero zero b p q = refl
-parts_join (w ∷ ws) zero (suc m) zero p q = absurd (omega arith)
-parts_join (w ∷ ws) zero (suc m) (suc b) p q = ap (λ (l : List Write). w ∷ l) (parts_join ws zero m b (omega arith) (omega arith))
-parts_join (w ∷ ws) (suc a) zero b p q = absurd (omega arith)
-parts_join (w ∷ ws) (suc a) (suc m) zero p q = absurd (omega arith)
-parts_join (w ∷ ws) (suc a) (suc m) (suc b) p q = parts_join ws a m b (omega arith) (omega arith)
-
--- ranges join
-pub ranges_join : (journal : List Write) (family from mid to : ℕ) → from ≤ mid → mid ≤ to
-    → range_of journal family from mid ++ range_of journal family mid to ≡ range_of journal family from to
-ranges_join journal family from mid to p q =
-    let ws = of_family family journal in
-    sym (map-append row_of (drop from (take mid ws)) (drop mid (take to ws))) ∙ ap (map row_of) (parts_join ws from mid to p q)
-
 -- the newest of older and newer writes is that of the newer ones, if they have one
 pub newest_row_append : (key : List ℕ) (old new : List Row)
     → newest_row key (old ++ new) ≡ option_or (newest_row key new) (newest_row key old)

@@ -1,6 +1,7 @@
 pub mod AfterLaws
 pub mod Ascending
 pub mod Basics
+pub mod Entries
 pub mod FlatEnds
 pub mod FlatFirsts
 pub mod FlatKeys
@@ -13,7 +14,9 @@ pub mod HolderLaws
 pub mod KeyOrder
 pub mod Lists
 pub mod Lowering
+pub mod Metas
 pub mod NumberLaws
+pub mod PassedRows
 pub mod PlaceLaws
 pub mod PlacedLaws
 pub mod Ranges

@@ -5,9 +5,7 @@ use Rattle.sv_model.specs.Lists.{total, same}
 use Rattle.sv_model.specs.Registers.{entry}
 use Rattle.sv_model.specs.Numbers.{registered}
 use Rattle.sv_model.proofs.Lists.{total_at, same_here}
-
-pub apart_or : (p q : ℕ) → (p ≡ q) ⊎ (p ≢ q)
-apart_or p q = grind arith
+use Rattle.sv_model.proofs.Basics.{apart_or}
 
 two_places : {A : Type 0} (g : A → ℕ) (l : List A) (i j : ℕ) (x y : A) → i ≢ j → slice_get l i ≡ Some x → slice_get l j ≡ Some y → g x + g y ≤ total g l
 two_places g [] i j x y apart a b = absurd (cc)

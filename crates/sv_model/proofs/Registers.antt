@@ -29,6 +29,15 @@ get_push (z ∷ l) y (suc n) x is = elim (get_push l y n x is) [
   | inr new ↦ inr (ap suc new.0, new.1)
 ]
 
+pub get-some : {A : Type 0} (l : List A) (n : ℕ) → n < length l → (x : A) × (slice_get l n ≡ Some x)
+get-some [] n h = absurd (omega arith)
+get-some (x ∷ l) zero h = (x, refl)
+get-some (x ∷ l) (suc n) h = get-some l n (omega arith)
+
+pub entry-some : {A : Type 0} (l : List A) (n : ℕ) → 0 < n → n ≤ length l → (x : A) × (entry l n ≡ Some x)
+entry-some l zero p q = absurd (omega arith)
+entry-some l (suc n) p q = get-some l n (omega arith)
+
 -- what was an entry is one after a push
 pub entry-old : {A : Type 0} (l m : List A) (n : ℕ) (x : A) → entry l n ≡ Some x → entry (l ++ m) n ≡ Some x
 entry-old l m zero x is = absurd (cc)
@@ -133,3 +142,8 @@ has_total g l more = let h = at_total g l more in (suc h.0, h.1, h.2, h.3)
 pub total-change : {A : Type 0} (g : A → ℕ) (l : List A) (n : ℕ) (x y : A) → entry l n ≡ Some x → total g (change l n y) + g x ≡ total g l + g y
 total-change g l zero x y is = absurd (cc)
 total-change g l (suc n) x y is = total-set g l n x y is
+
+-- the registers without their first records go on too
+pub goes-rest : {A : Type 0} (R : A → A → Type 0) (x y : A) (a b : List A) → GoesOn R (x ∷ a) (y ∷ b) → GoesOn R a b
+goes-rest R x y a b g zero z e = absurd (cc)
+goes-rest R x y a b g (suc n) z e = g (suc (suc n)) z e

@@ -15,6 +15,7 @@ use Rattle.sv_model.specs.Lists.{In, Every}
 use Rattle.sv_model.specs.Registers.{entry, Has, EachEntry}
 use Rattle.sv_model.specs.Reads.{IsCapturedFor}
 use Rattle.sv_model.specs.Books.{end_of}
+use Rattle.sv_model.specs.declared.limits.TheConstants.{MAX_ROWS}
 
 -- the file is registered for the family with its meta, and covers at least one write
 pub record IsFileOf (numbers : List RegisteredFile) (metas : List FileMeta) (family : ℕ) (file : FileMeta) : Type 0 where
@@ -69,7 +70,7 @@ pub record LastFits (journal : List Write) (versions : List Version) (numbers : 
 pub record BearsFrom (journal : List Write) (m : ℕ) (it : Memtable) : Type 0 where
   pub within : it.first ≤ length (of_family it.family journal)
   pub rows : borne_by m journal ≡ take (length (borne_by m journal)) (drop it.first (of_family it.family journal))
-  pub few : length (borne_by m journal) ≤ 65536
+  pub few : length (borne_by m journal) ≤ MAX_ROWS
 
 -- What a family's current is: the newest of its SuperVersions, over its last Version, and it ends with the last write.
 pub record IsTop (journal : List Write) (supers : List SuperVersion) (f : ℕ) (family : Family) (last s : ℕ) : Type 0 where

@@ -5,6 +5,7 @@ use Rattle.sv_model.specs.declared.settings.Options.{Options}
 use Rattle.sv_model.specs.declared.settings.OptionName.{OptionName}
 use Rattle.sv_model.specs.declared.settings.OptionName.TheVariants.{MemtableRows, MaxImmutable}
 use Rattle.sv_model.specs.Lists.{bit, total}
+use Rattle.sv_model.specs.declared.limits.TheConstants.{MAX_FAMILIES, MAX_LANES, MAX_ROWS}
 
 -- ---- options
 
@@ -14,12 +15,12 @@ first_options = record { memtable_rows = 1024; max_immutable = 2 }
 
 -- the greatest value of an option; the least is 1
 abbrev pub greatest_of : OptionName → ℕ
-greatest_of MemtableRows = 65536
+greatest_of MemtableRows = MAX_ROWS
 greatest_of MaxImmutable = 8
 
 pub record InRange (o : Options) : Type 0 where
   pub rows_least : 1 ≤ o.memtable_rows
-  pub rows_most : o.memtable_rows ≤ 65536
+  pub rows_most : o.memtable_rows ≤ MAX_ROWS
   pub lists_least : 1 ≤ o.max_immutable
   pub lists_most : o.max_immutable ≤ 8
 
@@ -55,7 +56,7 @@ default_name = codes "default"
 
 -- the family with which a database begins
 abbrev pub default_family : Family
-default_family = record { name = default_name; options = first_options; dropped = false; handles = replicate 32 true }
+default_family = record { name = default_name; options = first_options; dropped = false; handles = replicate MAX_LANES true }
 
 pub record IsDefault (families : List Family) : Type 0 where
   pub it : Family
@@ -73,12 +74,12 @@ abbrev pub Each : (Family → Type 0) → List Family → Type 0
 Each Is families = (f : ℕ) (x : Family) → slice_get families f ≡ Some x → Is x
 
 pub record AreFamilies (families : List Family) : Type 0 where
-  pub few : length families ≤ 16
+  pub few : length families ≤ MAX_FAMILIES
   pub default : IsDefault families
   -- each lane has a handle of the default family
-  pub home : (lane : ℕ) (x : Family) → lane < 32 → slice_get families 0 ≡ Some x → HasHandle lane x
+  pub home : (lane : ℕ) (x : Family) → lane < MAX_LANES → slice_get families 0 ≡ Some x → HasHandle lane x
   -- a name stands for one family, to all lanes and to each
   pub distinct : (name : List ℕ) → AtMostOne (IsStanding name) families
   pub meant : (lane : ℕ) (name : List ℕ) → AtMostOne (IsOwn lane name) families
   pub options : Each (λ f. InRange f.options) families
-  pub lanes : Each (λ f. length f.handles ≡ 32) families
+  pub lanes : Each (λ f. length f.handles ≡ MAX_LANES) families

@@ -12,16 +12,17 @@ use Rattle.sv_model.specs.Families.{IsDefault, InRange}
 use Rattle.sv_model.specs.Numbers.{NumbersStand, IsRegistered, captures, captured_numbers}
 use Rattle.sv_model.specs.Snapshots.{SnapshotsStand}
 use Rattle.sv_model.specs.Described.{Describes, LastFits, BearsFrom, IsTop}
+use Rattle.sv_model.specs.declared.limits.TheConstants.{MAX_CAPTURED, MAX_CELLS, MAX_FAMILIES, MAX_HOLDS, MAX_JOBS, MAX_PLACES, MAX_SUPERS, MAX_WRITES}
 
 pub record Limits (b : Books) : Type 0 where
-  pub families : length b.families ≤ 16
-  pub supers : length b.supers ≤ 1048576
-  pub live_supers : total (λ s. bit s.live) b.supers ≤ 256
-  pub live_memtables : total (λ m. bit m.live) b.memtables ≤ 64
-  pub captured : captures b.files.numbers ≤ 1048576
-  pub writes : length b.journal ≤ 262144
-  pub holds : Every (λ h. h ≤ 255) b.files.holds
-  pub jobs : b.files.jobs ≤ 32
+  pub families : length b.families ≤ MAX_FAMILIES
+  pub supers : length b.supers ≤ MAX_SUPERS
+  pub live_supers : total (λ s. bit s.live) b.supers ≤ MAX_PLACES
+  pub live_memtables : total (λ m. bit m.live) b.memtables ≤ MAX_CELLS
+  pub captured : captures b.files.numbers ≤ MAX_CAPTURED
+  pub writes : length b.journal ≤ MAX_WRITES
+  pub holds : Every (λ h. h ≤ MAX_HOLDS) b.files.holds
+  pub jobs : b.files.jobs ≤ MAX_JOBS
   pub options : Every (λ f. InRange f.options) b.families
 
 pub record Lawful (b : Books) : Type 0 where
@@ -42,8 +43,8 @@ pub record Lawful (b : Books) : Type 0 where
   pub metas : numbers_of b.metas ≡ captured_numbers b.files.numbers
   pub cuts : Every (λ m. AreCuts m.from m.to m.bottom.cuts) b.metas
   -- no two Live SuperVersions have one place, and no two Live memtables one cell
-  pub places : EachEntry (λ n x. x.live ≡ true → (x.place < 256) × EachEntry (λ k y. y.live ≡ true → y.place ≡ x.place → k ≡ n) b.supers) b.supers
-  pub cells : EachEntry (λ n x. x.live ≡ true → (x.cell < 64) × EachEntry (λ k y. y.live ≡ true → y.cell ≡ x.cell → k ≡ n) b.memtables) b.memtables
+  pub places : EachEntry (λ n x. x.live ≡ true → (x.place < MAX_PLACES) × EachEntry (λ k y. y.live ≡ true → y.place ≡ x.place → k ≡ n) b.supers) b.supers
+  pub cells : EachEntry (λ n x. x.live ≡ true → (x.cell < MAX_CELLS) × EachEntry (λ k y. y.live ≡ true → y.cell ≡ x.cell → k ≡ n) b.memtables) b.memtables
   -- families
   pub distinct : (f g : ℕ) (x y : Family) → slice_get b.families f ≡ Some x → slice_get b.families g ≡ Some y → x.dropped ≡ false → y.dropped ≡ false → x.name ≡ y.name → f ≡ g
   pub default : IsDefault b.families

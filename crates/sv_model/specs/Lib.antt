@@ -26,6 +26,9 @@ pub mod Registers
 pub mod Snapshots
 pub mod Steady
 pub mod Summaries
+pub mod Supers
 pub mod TableText
 pub mod TableTextFields
+pub mod Tasks
 pub mod Together
+pub mod Turns

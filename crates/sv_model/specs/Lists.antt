@@ -1,5 +1,5 @@
 -- Words on lists: what stands in one, how often, each once, in the same order.
-use Rattle.std.specs.Prelude.{◌≡◌, ℕ, ◌+◌, Bool, List, [], ◌∷◌, Some, slice_get, cond, ◌==◌, ◌⊎◌, ◌↔◌}
+use Rattle.std.specs.Prelude.{◌≡◌, ℕ, zero, suc, ◌+◌, Bool, List, [], ◌∷◌, Some, slice_get, cond, ◌==◌, ◌⊎◌, ◌↔◌}
 
 -- the item stands in the list
 pub record In {A : Type 0} (x : A) (l : List A) : Type 0 where
@@ -42,3 +42,9 @@ pub record IsChosen (P : ℕ → Type 0) (all given : List ℕ) : Type 0 where
   pub exact : (n : ℕ) → In n given ↔ (In n all × P n)
   pub once : Distinct given
   pub order : IsPartOf given all
+
+-- a list has d wherever nothing was put
+abbrev pub at : {A : Type 0} → A → List A → ℕ → A
+at d [] i = d
+at d (x ∷ xs) zero = x
+at d (x ∷ xs) (suc i) = at d xs i

@@ -6,6 +6,7 @@ use Rattle.sv_model.specs.Lists.{In}
 use Rattle.sv_model.specs.Registers.{Has}
 use Rattle.sv_model.specs.Books.{Books}
 use Rattle.sv_model.specs.Reads.{IsCapturedFor}
+use Rattle.sv_model.specs.declared.limits.TheConstants.{MAX_CAPTURED, MAX_CELLS, MAX_PLACES, MAX_SUPERS}
 
 -- a memtable of the family that begins at this write of it or later
 pub record BeginsFrom (family first : ℕ) (m : Memtable) : Type 0 where
@@ -34,20 +35,20 @@ WasFlushed books family upto = (upto ≡ 0) ⊎ ((file : FileMeta) × ReachesTo 
 
 -- Too many memtables: 64 were made.
 abbrev pub WereManyMemtables : Books → Type 0
-WereManyMemtables books = 64 ≤ length books.memtables
+WereManyMemtables books = MAX_CELLS ≤ length books.memtables
 
 -- Too many Live SuperVersions: 256 were made.
 abbrev pub WereManyLive : Books → Type 0
-WereManyLive books = 256 ≤ length books.supers
+WereManyLive books = MAX_PLACES ≤ length books.supers
 
 -- The register of SuperVersions was full.
 abbrev pub WereAllMade : Books → Type 0
-WereAllMade books = 1048576 ≤ length books.supers
+WereAllMade books = MAX_SUPERS ≤ length books.supers
 
 -- A register was full, or file numbers were at their end.
 abbrev pub WereAllNumbered : Books → Type 0
 WereAllNumbered books =
-    WereAllMade books ⊎ ((1048576 ≤ count_by (λ f. is_some f.family) books.files.numbers) ⊎ (18446744073709551615 ≤ books.files.next))
+    WereAllMade books ⊎ ((MAX_CAPTURED ≤ count_by (λ f. is_some f.family) books.files.numbers) ⊎ (18446744073709551615 ≤ books.files.next))
 
 -- the number was captured for the family
 abbrev pub WasCapturedFor : Books → ℕ → ℕ → Type 0

@@ -7,6 +7,7 @@ use Rattle.sv_model.specs.declared.records.FileStatus.TheVariants.{Pending, Live
 use Rattle.sv_model.specs.Books.{FileRegister}
 use Rattle.sv_model.specs.Lists.{In, total, same}
 use Rattle.sv_model.specs.Registers.{entry, change, Has}
+use Rattle.sv_model.specs.declared.limits.TheConstants.{MAX_CAPTURED, MAX_FAMILIES, MAX_HOLDS, MAX_JOBS, MAX_LANES}
 
 -- ---- statuses
 
@@ -94,11 +95,11 @@ pub record NumbersStand (numbers : List RegisteredFile) (captured : List (Option
 -- The numbers, the captures of 16 families, the holds of 32 lanes and the jobs, each within its limit.
 pub record FilesStand (files : FileRegister) : Type 0 where
   pub numbers : NumbersStand files.numbers files.captured files.next
-  pub few : captures files.numbers ≤ 1048576
-  pub families : length files.captured ≡ 16
-  pub lanes : length files.holds ≡ 32
-  pub holds : (lane count : ℕ) → slice_get files.holds lane ≡ Some count → count ≤ 255
-  pub jobs : files.jobs ≤ 32
+  pub few : captures files.numbers ≤ MAX_CAPTURED
+  pub families : length files.captured ≡ MAX_FAMILIES
+  pub lanes : length files.holds ≡ MAX_LANES
+  pub holds : (lane count : ℕ) → slice_get files.holds lane ≡ Some count → count ≤ MAX_HOLDS
+  pub jobs : files.jobs ≤ MAX_JOBS
 
 -- ---- a status changes
 

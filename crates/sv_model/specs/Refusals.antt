@@ -2,6 +2,8 @@
 use Rattle.std.specs.Prelude.{◌≡◌, ℕ, List, [], ◌∷◌, Option, Some, None, Result, Ok, Err, cond, ◌&&◌, nat_le}
 use Rattle.sv_model.specs.declared.refusals.Refusal.{Refusal}
 use Rattle.sv_model.specs.declared.refusals.Refusal.TheVariants as refusal
+use Rattle.sv_model.specs.declared.keys.TheConstants.{MAX_KEY}
+use Rattle.sv_model.specs.declared.values.TheConstants.{MAX_VALUE}
 
 -- the refusal is the one that is due; want of memory may stand in place of any
 abbrev pub IsDue : Option Refusal → Refusal → Type 0
@@ -20,10 +22,10 @@ RefusesExactly due (Err e) = due ≡ Some e
 
 -- the refusal that a key or a value of this length meets
 abbrev pub key_refusal : ℕ → Option Refusal
-key_refusal n = cond (nat_le 1 n && nat_le n 64) None (Some (refusal.KeyLength n))
+key_refusal n = cond (nat_le 1 n && nat_le n MAX_KEY) None (Some (refusal.KeyLength n))
 
 abbrev pub value_refusal : ℕ → Option Refusal
-value_refusal n = cond (nat_le n 1024) None (Some (refusal.ValueLength n))
+value_refusal n = cond (nat_le n MAX_VALUE) None (Some (refusal.ValueLength n))
 
 -- the first refusal that is due
 abbrev pub first_due : List (Option Refusal) → Option Refusal

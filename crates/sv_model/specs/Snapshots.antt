@@ -8,6 +8,7 @@ use Rattle.sv_model.specs.declared.records.Snapshot.{Snapshot}
 use Rattle.sv_model.specs.Journal.{of_family}
 use Rattle.sv_model.specs.Lists.{In, bit, total}
 use Rattle.sv_model.specs.Registers.{entry, EachEntry}
+use Rattle.sv_model.specs.declared.limits.TheConstants.{MAX_SNAPSHOTS, MAX_SNAPSHOTS_LIVE}
 
 -- where a snapshot of this place in the journal reads a family: at so many of its writes
 abbrev pub cut_of : List Write → ℕ → ℕ → ℕ
@@ -37,7 +38,7 @@ AreClear journal snapshots Is =
 
 pub record SnapshotsStand (journal : List Write) (versions : List Version) (captured : List (Option ℕ)) (metas : List FileMeta) (tops : List Top) (snapshots : List Snapshot) : Type 0 where
   pub within : EachEntry (λ n s. s.at ≤ length journal) snapshots
-  pub few : total (λ s. bit s.live) snapshots ≤ 64
-  pub made : length snapshots ≤ 1048576
+  pub few : total (λ s. bit s.live) snapshots ≤ MAX_SNAPSHOTS_LIVE
+  pub made : length snapshots ≤ MAX_SNAPSHOTS
   pub lasts : AreClear journal snapshots (IsLastFile versions tops)
   pub awaited : AreClear journal snapshots (IsAwaitedFile captured metas)

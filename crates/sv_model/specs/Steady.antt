@@ -17,6 +17,7 @@ use Rattle.sv_model.specs.Books.{Books}
 use Rattle.sv_model.specs.Families.{is_retired}
 use Rattle.sv_model.specs.Described.{MembersJoin}
 use Rattle.sv_model.specs.Lawful.{Lawful}
+use Rattle.sv_model.specs.declared.limits.TheConstants.{MAX_FAMILIES, MAX_LANES}
 
 -- the family's current
 pub record IsCurrent (tops : List Top) (supers : List SuperVersion) (f s : ℕ) (x : SuperVersion) : Type 0 where
@@ -62,7 +63,7 @@ pub record IsAwaited (journal : List Write) (memtables : List Memtable) (lists :
 -- neither, memtable 0 and lane 255.
 pub record IsBorne (memtables families : ℕ) (w : Write) : Type 0 where
   pub family_made : w.family < families
-  pub by : ((0 < w.mem) × (w.mem ≤ memtables) × (w.lane < 32)) ⊎ ((w.mem ≡ 0) × (w.lane ≡ 255))
+  pub by : ((0 < w.mem) × (w.mem ≤ memtables) × (w.lane < MAX_LANES)) ⊎ ((w.mem ≡ 0) × (w.lane ≡ 255))
 
 pub record Steady (b : Books) : Type 0 where
   pub borne : Every (IsBorne (length b.memtables) (length b.families)) b.journal
@@ -76,9 +77,9 @@ pub record Steady (b : Books) : Type 0 where
   pub retired : (f : ℕ) (y : Family) (t : Top) → slice_get b.families f ≡ Some y → slice_get b.tops f ≡ Some t → is_retired y ≡ true → t.current ≡ None
   -- only a family that was made has a captured number
   pub busy : (f n : ℕ) → slice_get b.files.captured f ≡ Some (Some n) → f < length b.families
-  pub captured : length b.files.captured ≡ 16
-  pub holds : length b.files.holds ≡ 32
-  pub handles : Every (λ y. length y.handles ≡ 32) b.families
+  pub captured : length b.files.captured ≡ MAX_FAMILIES
+  pub holds : length b.files.holds ≡ MAX_LANES
+  pub handles : Every (λ y. length y.handles ≡ MAX_LANES) b.families
   -- no more of these were made than SuperVersions
   pub memtables_made : length b.memtables ≤ length b.supers
   pub lists_made : length b.lists ≤ length b.supers

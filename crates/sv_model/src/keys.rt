@@ -12,7 +12,7 @@ use std::cmp::Ordering;
 use std::marker::Model;
 
 /// The greatest number of bytes of a key.
-pub const GREATEST_KEY: usize = 64;
+pub const MAX_KEY: usize = 64;
 
 /// A key: 1 to 64 bytes, in the memory of its bytes. Keys are ordered by their bytes, a prefix first.
 #[derive(Drop, Debug)]
@@ -36,7 +36,7 @@ impl Key {
         ensures made { IfOk result (λ key. key ≡ bytes.now) }
         ensures refused { Refuses (key_refusal (length bytes.now)) result }
     {
-        if bytes.is_empty() || bytes.len() > GREATEST_KEY {
+        if bytes.is_empty() || bytes.len() > MAX_KEY {
             return Err(Refusal::KeyLength {
                 length: bytes.len() as u64,
             });

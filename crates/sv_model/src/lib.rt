@@ -8,6 +8,7 @@ mod holders;
 mod ids;
 mod item_list;
 mod keys;
+mod limits;
 mod names;
 mod placed;
 mod raising;
@@ -27,8 +28,12 @@ pub use faults::OutOfMemory;
 pub use holders::{Holder, HolderRegister, MAX_HOLDERS};
 pub use ids::{FamilyId, FileNumber, ListId, MemId, Pack, SvSerial, VersionId};
 pub use item_list::Items;
-pub use keys::{GREATEST_KEY, Key};
-pub use names::{GREATEST_NAME, Name};
+pub use keys::{Key, MAX_KEY};
+pub use limits::{
+    MAX_CAPTURED, MAX_CELLS, MAX_FAMILIES, MAX_HOLDS, MAX_JOBS, MAX_LANES, MAX_PLACES, MAX_ROWS,
+    MAX_SNAPSHOTS, MAX_SNAPSHOTS_LIVE, MAX_SUPERS, MAX_WRITES,
+};
+pub use names::{MAX_NAME, Name};
 pub use placed::{MAX_PLACED, Placed, PlacedRegister};
 pub use records::{
     Descriptor, Family, FileMeta, FileStatus, Memtable, MemtableList, RegisteredFile, Snapshot,
@@ -40,5 +45,5 @@ pub use searches::{Ranked, find_upto};
 pub use settings::{OptionName, Options};
 pub use sv_refs::SvRef;
 pub use tables::Table;
-pub use values::{GREATEST_VALUE, Value};
+pub use values::{MAX_VALUE, Value};
 pub use writes::{Kept, Numbered, Op, Row, Write, newest};

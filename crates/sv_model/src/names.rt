@@ -8,7 +8,7 @@ use std::alloc::{AllocError, Global};
 use std::marker::Model;
 
 /// The greatest number of bytes of a name.
-pub const GREATEST_NAME: usize = 32;
+pub const MAX_NAME: usize = 32;
 
 /// A name: 1 to 32 bytes of `a` to `z`, `0` to `9` and `_`.
 #[derive(Drop, Debug)]
@@ -42,7 +42,7 @@ fn has_name_bytes(bytes: &[u8]) -> bool
 fn is_name(bytes: &[u8]) -> bool
     ensures { result ≡ is_name bytes.now }
 {
-    if bytes.is_empty() || bytes.len() > GREATEST_NAME {
+    if bytes.is_empty() || bytes.len() > MAX_NAME {
         return false;
     }
     has_name_bytes(bytes)

@@ -7,7 +7,7 @@ use std::alloc::{AllocError, Global};
 use std::marker::Model;
 
 /// The greatest number of bytes of a value.
-pub const GREATEST_VALUE: usize = 1024;
+pub const MAX_VALUE: usize = 1024;
 
 /// A value: 0 to 1,024 bytes, in the memory of its bytes.
 #[derive(Drop, Debug)]
@@ -31,7 +31,7 @@ impl Value {
         ensures made { IfOk result (λ value. value ≡ bytes.now) }
         ensures refused { Refuses (value_refusal (length bytes.now)) result }
     {
-        if bytes.len() > GREATEST_VALUE {
+        if bytes.len() > MAX_VALUE {
             return Err(Refusal::ValueLength {
                 length: bytes.len() as u64,
             });

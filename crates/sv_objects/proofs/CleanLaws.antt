@@ -17,7 +17,7 @@ use Rattle.sv_registry.specs.declared.registry.Freed.{Freed}
 use Rattle.sv_registry.specs.Calls as registry
 use Rattle.sv_registry.specs.Calls.{IsLivePack, IsReclaimed}
 use Rattle.sv_laws.specs.Midst.{EndsVersion, Frees}
-use Rattle.sv_laws.proofs.Items.{in-left, in-none, in-right, some}
+use Rattle.sv_model.proofs.Entries.{in-left, in-none, in-right, some}
 use Rattle.sv_laws.proofs.Settled.{marked-else}
 
 -- another number that was Live is so after one was marked

@@ -6,7 +6,7 @@ use Rattle.sv_model.specs.Named.{IsLive}
 use Rattle.sv_model.specs.Registers.{entry}
 use Rattle.sv_model.proofs.Registers.{entry-new}
 use Rattle.sv_cells.specs.Calls.{IsMade}
-use Rattle.sv_laws.proofs.Items.{some}
+use Rattle.sv_model.proofs.Entries.{some}
 use Rattle.sv_objects.specs.Makings.{IsCellOf}
 
 -- what is left is what was there before

@@ -14,11 +14,13 @@ use crate::bodies::{Body, Held};
 use crate::objects::Objects;
 use std::alloc::Global;
 use std::sync::Arc;
-use sv_cells::MemtableRegister;
+use sv_cells::{MAX_MEMTABLES, MemtableRegister};
+use sv_imm::MAX_LISTS;
 use sv_model::{
     Descriptor, FamilyId, FileMeta, Items, ListId, MemId, Options, Refusal, SvRef, VersionId,
 };
 use sv_registry::Registry;
+use sv_version::MAX_VERSIONS;
 
 // A SuperVersion with its reference.
 fn make_ref(
@@ -93,8 +95,8 @@ impl Objects {
     ) -> Result<SvRef<Body>, Refusal>
         requires live { IsLiveList self.old.lists current.list }
         requires short { (l : MemtableList) → entry self.old.lists current.list ≡ Some l → length l.members < 64 }
-        requires few_lists { length self.old.lists < 4294967295 }
-        requires few_memtables { length self.old.memtables < 4294967295 }
+        requires few_lists { length self.old.lists < MAX_LISTS }
+        requires few_memtables { length self.old.memtables < MAX_MEMTABLES }
         ensures made { IfOk result (λ r. SwitchMade self.old current base held self.new r.pack r.body.value) }
         ensures refused { Refuses (first_due (memtables_refusal self.old.memtables ∷ make_refusal self.old.supers ∷ [])) result }
         ensures kept { OnErr result (self.new ≡ self.old) }
@@ -135,9 +137,9 @@ impl Objects {
         requires live_version { IsLiveVersion self.old.versions current.version }
         requires joins { (v : Version) → entry self.old.versions current.version ≡ Some v → FilesJoin 0 v.files file.from }
         requires unnamed { Has (HasFile file.number) self.old.versions → ⊥ }
-        requires few_versions { length self.old.versions < 4294967295 }
+        requires few_versions { length self.old.versions < MAX_VERSIONS }
         requires live { IsLiveList self.old.lists current.list }
-        requires few_lists { length self.old.lists < 4294967295 }
+        requires few_lists { length self.old.lists < MAX_LISTS }
         ensures made { IfOk result (λ r. FlushMade self.old current cell file count held self.new r.pack r.body.value) }
         ensures refused { Refuses (make_refusal self.old.supers) result }
         ensures kept { OnErr result (self.new ≡ self.old) }
@@ -177,7 +179,7 @@ impl Objects {
         requires begins { file.from ≡ 0 }
         requires covers { (v : Version) → entry self.old.versions current.version ≡ Some v → FilesJoin 0 v.files file.to }
         requires unnamed { Has (HasFile file.number) self.old.versions → ⊥ }
-        requires few_versions { length self.old.versions < 4294967295 }
+        requires few_versions { length self.old.versions < MAX_VERSIONS }
         ensures made { IfOk result (λ r. CompactionMade self.old current cell file held self.new r.pack r.body.value) }
         ensures refused { Refuses (make_refusal self.old.supers) result }
         ensures kept { OnErr result (self.new ≡ self.old) }
@@ -202,9 +204,9 @@ impl Objects {
         family: FamilyId,
         options: Options,
     ) -> Result<SvRef<Body>, Refusal>
-        requires few_memtables { length self.old.memtables < 4294967295 }
-        requires few_lists { length self.old.lists < 4294967295 }
-        requires few_versions { length self.old.versions < 4294967295 }
+        requires few_memtables { length self.old.memtables < MAX_MEMTABLES }
+        requires few_lists { length self.old.lists < MAX_LISTS }
+        requires few_versions { length self.old.versions < MAX_VERSIONS }
         ensures made { IfOk result (λ r. FamilyMade self.old family options self.new r.pack r.body.value) }
         ensures refused { Refuses (first_due (memtables_refusal self.old.memtables ∷ make_refusal self.old.supers ∷ [])) result }
         ensures kept { OnErr result (self.new ≡ self.old) }

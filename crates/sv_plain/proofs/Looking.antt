@@ -13,6 +13,7 @@ use Rattle.sv_model.specs.Flat.{range_of}
 use Rattle.sv_plain.specs.declared.immutables.Immutable.{Immutable}
 use Rattle.sv_plain.specs.Immutables.{ImmutablesJoin, newer_or, immutable_op}
 use Rattle.sv_plain.proofs.Joining.{join_le}
+use Rattle.sv_model.proofs.Ranges.{ranges_join}
 
 -- ---- the newest row of a key
 
@@ -49,25 +50,8 @@ empty_part zero b = refl
 empty_part (suc m) zero = refl
 empty_part (suc m) (suc b) = refl
 
-parts_join : (ws : List Write) (a m b : ℕ) → a ≤ m → m ≤ b → drop a (take m ws) ++ drop m (take b ws) ≡ drop a (take b ws)
-parts_join ws zero zero b p q = refl
-parts_join [] zero (suc m) b p q = empty_part (suc m) b
-parts_join (w ∷ ws) zero (suc m) zero p q = absurd (omega arith)
-parts_join (w ∷ ws) zero (suc m) (suc b) p q = ap (λ (x : List Write). w ∷ x) (parts_join ws zero m b (omega arith) (omega arith))
-parts_join ws (suc a) zero b p q = absurd (omega arith)
-parts_join [] (suc a) (suc m) zero p q = refl
-parts_join [] (suc a) (suc m) (suc b) p q = refl
-parts_join (w ∷ ws) (suc a) (suc m) zero p q = absurd (omega arith)
-parts_join (w ∷ ws) (suc a) (suc m) (suc b) p q = parts_join ws a m b (omega arith) (omega arith)
-
 pub range_none : (journal : List Write) (family n : ℕ) → range_of journal family n n ≡ []
 range_none journal family n = ap (map row_of) (part_none (of_family family journal) n)
-
--- two ranges that join are one
-pub ranges_join : (journal : List Write) (family a m b : ℕ) → a ≤ m → m ≤ b → range_of journal family a m ++ range_of journal family m b ≡ range_of journal family a b
-ranges_join journal family a m b p q =
-    let ws = of_family family journal in
-    sym (map-append row_of (drop a (take m ws)) (drop m (take b ws))) ∙ ap (map row_of) (parts_join ws a m b p q)
 
 -- the newest of the later range, or else of the earlier
 pub newest_joined : (key : List ℕ) (journal : List Write) (family a m b : ℕ) → a ≤ m → m ≤ b → newest_op key (range_of journal family a b) ≡ newer_or (newest_op key (range_of journal family m b)) (newest_op key (range_of journal family a m))

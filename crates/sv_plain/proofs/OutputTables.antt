@@ -24,7 +24,8 @@ use Rattle.sv_plain.specs.declared.parts.Parts.{Parts}
 use Rattle.sv_plain.specs.Immutables.{ImmutablesJoin}
 use Rattle.sv_plain.specs.Outputs.{IsDueAs, moved, numbered_all}
 use Rattle.sv_plain.proofs.Joining.{join_le}
-use Rattle.sv_plain.proofs.Looking.{all_own, range_none, ranges_join}
+use Rattle.sv_plain.proofs.Looking.{all_own, range_none}
+use Rattle.sv_model.proofs.Ranges.{ranges_join}
 
 -- ---- the rows
 

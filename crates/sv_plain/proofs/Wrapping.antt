@@ -27,14 +27,12 @@ use Rattle.sv_plain.proofs.Lasts.{all_entry, entry_last, live_last}
 use Rattle.sv_plain.proofs.Owning.{own_family}
 use Rattle.sv_plain.proofs.Putting.{holds_more, holds_same}
 use Rattle.sv_plain.proofs.Refused.{files_are}
+use Rattle.sv_model.proofs.Basics.{none_some}
 
 -- ---- the open store
 abbrev current_of : List Top → Option ℕ
 current_of [] = None
 current_of (t ∷ tops) = t.current
-
-none_some : (n : ℕ) → None ≡ Some n → ⊥
-none_some n e = absurd (cc)
 
 not_open : (is_open : Bool) (supers versions : ℕ) → is_open ≡ false → top_from is_open supers versions ∷ [] ≡ top_from true supers versions ∷ [] → ⊥
 not_open true supers versions is e = absurd (cc)

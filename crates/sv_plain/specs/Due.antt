@@ -10,6 +10,7 @@ use Rattle.sv_cells.specs.Calls.{memtables_refusal}
 use Rattle.sv_registry.specs.Calls.{full_refusal, make_refusal}
 use Rattle.sv_files.specs.Calls.{capture_refusal}
 use Rattle.sv_plain.specs.Store.{active_rows, immutable_count, last_files, write_count}
+use Rattle.sv_model.specs.declared.limits.TheConstants.{MAX_SUPERS}
 
 -- a refusal that is due only in this case
 abbrev pub only_if : Bool → Option Refusal → Option Refusal
@@ -55,7 +56,7 @@ nothing_refusal b = cond ((active_rows b == 0) && (immutable_count b == 0)) (Som
 
 -- the registers of SuperVersions
 abbrev pub all_made_refusal : Books → Option Refusal
-all_made_refusal b = cond (nat_le 1048576 (length b.supers)) (Some refusal.RegisterFull) None
+all_made_refusal b = cond (nat_le MAX_SUPERS (length b.supers)) (Some refusal.RegisterFull) None
 
 abbrev pub all_live_refusal : Books → Option Refusal
 all_live_refusal b = full_refusal b.supers

@@ -7,6 +7,7 @@ use Rattle.sv_model.specs.Flat.{range_of}
 use Rattle.sv_model.specs.Journal.{newest_op}
 use Rattle.sv_model.specs.Registers.{entry}
 use Rattle.sv_plain.specs.declared.immutables.Immutable.{Immutable}
+use Rattle.sv_model.specs.declared.limits.TheConstants.{MAX_ROWS}
 
 -- The immutable memtable is this one of the register, and has the rows of its range of writes.
 pub record IsImmutable (memtables : List Memtable) (journal : List Write) (mem : ℕ) (it : Immutable) : Type 0 where
@@ -14,7 +15,7 @@ pub record IsImmutable (memtables : List Memtable) (journal : List Write) (mem :
   pub at : entry memtables mem ≡ Some (record { family = 0; first = it.from; cell = cell; live = true })
   pub id : it.rows.id ≡ mem
   pub some : it.from < it.to
-  pub few : it.to ≤ it.from + 65536
+  pub few : it.to ≤ it.from + MAX_ROWS
   pub rows : it.rows.rows ≡ range_of journal 0 it.from it.to
 
 -- These are the members of a list, oldest first, with ids above `above`; their ranges join.

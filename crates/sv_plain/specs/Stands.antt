@@ -22,6 +22,7 @@ use Rattle.sv_plain.specs.Removed.{IsFree}
 use Rattle.sv_model.specs.Families.{default_family, first_options}
 use Rattle.sv_plain.specs.Store.{top_of}
 use Rattle.sv_model.specs.Flat.{plain}
+use Rattle.sv_model.specs.declared.limits.TheConstants.{MAX_ROWS, MAX_SUPERS}
 
 -- A write of the one family and the one lane, into a memtable that was made.
 pub record IsOwn (made : ℕ) (w : Write) : Type 0 where
@@ -76,7 +77,7 @@ pub record Stands (b : Books) (reach base serial place list version : ℕ) (acti
   pub active_at : entry b.memtables (length b.memtables) ≡ Some (record { family = 0; first = base; cell = cell; live = true })
   pub active_id : active.id ≡ length b.memtables
   pub active_rows : active.rows ≡ rows_of (drop base b.journal)
-  pub narrow : length active.rows ≤ 65536
+  pub narrow : length active.rows ≤ MAX_ROWS
   pub bears : borne_by (length b.memtables) b.journal ≡ drop base b.journal
   pub base_fits : base ≤ length b.journal
   pub joins : ImmutablesJoin b.memtables b.journal 0 reach lists.last.members immutables base
@@ -89,4 +90,4 @@ pub record Stands (b : Books) (reach base serial place list version : ℕ) (acti
   pub few_memtables : length b.memtables ≤ length b.supers
   pub few_lists : length b.lists ≤ length b.supers
   pub few_versions : length b.versions ≤ length b.supers
-  pub few : length b.supers ≤ 1048576
+  pub few : length b.supers ≤ MAX_SUPERS

@@ -9,14 +9,15 @@ use Rattle.sv_model.specs.Registers.{entry, Has}
 use Rattle.sv_model.specs.Places as model
 use Rattle.sv_model.specs.Places.{live_count, IsLeastFree, HavePlaces, place_of, gone_super}
 use Rattle.sv_registry.specs.declared.registry.Freed.{Freed}
+use Rattle.sv_model.specs.declared.limits.TheConstants.{MAX_PLACES, MAX_SUPERS}
 
 -- the refusal that is due where 256 are Live
 abbrev pub full_refusal : List SuperVersion → Option Refusal
-full_refusal supers = cond (nat_le 256 (live_count super_live supers)) (Some TooManyLive) None
+full_refusal supers = cond (nat_le MAX_PLACES (live_count super_live supers)) (Some TooManyLive) None
 
 -- the refusal that making a SuperVersion meets: 1,048,576 were made, or 256 are Live
 abbrev pub make_refusal : List SuperVersion → Option Refusal
-make_refusal supers = cond (nat_le 1048576 (length supers)) (Some RegisterFull) (full_refusal supers)
+make_refusal supers = cond (nat_le MAX_SUPERS (length supers)) (Some RegisterFull) (full_refusal supers)
 
 -- A Live SuperVersion with this descriptor is made at the least free place, under the next serial.
 pub record IsMade (old : List SuperVersion) (descriptor : Descriptor) (pack : ℕ) (new : List SuperVersion) : Type 0 where

@@ -4,4 +4,4 @@
 mod parts;
 mod registry;
 
-pub use registry::{Freed, MAX_LIVE, MAX_MADE, Registry};
+pub use registry::{Freed, Registry};

@@ -3,8 +3,7 @@ ghost use Rattle.std.specs.Prelude.{◌↔◌, IsTrue};
 ghost use Rattle.sv_model.specs.Registers.{Has};
 ghost use Rattle.sv_registry.specs.Parts.{Names, NamesPart};
 
-use crate::registry::MAX_LIVE;
-use sv_model::{Descriptor, ListId, MemId, PlacedRegister, SuperVersion, VersionId};
+use sv_model::{Descriptor, ListId, MAX_PLACES, MemId, PlacedRegister, SuperVersion, VersionId};
 
 /// One of the three that a SuperVersion names.
 #[derive(Clone, Copy)]
@@ -25,7 +24,7 @@ fn names(descriptor: &Descriptor, part: &Part) -> bool
 }
 
 /// Whether a Live SuperVersion names the part.
-pub fn is_named(supers: &PlacedRegister<SuperVersion, MAX_LIVE>, part: &Part) -> bool
+pub fn is_named(supers: &PlacedRegister<SuperVersion, MAX_PLACES>, part: &Part) -> bool
     ensures { IsTrue result ↔ Has (NamesPart part.now) supers.now }
 {
     for place in 0..supers.places() {

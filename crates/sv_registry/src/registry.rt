@@ -13,20 +13,15 @@ use crate::parts::{Part, is_named};
 use std::alloc::Global;
 use std::marker::Model;
 use sv_model::{
-    Descriptor, ListId, MemId, Pack, PlacedRegister, Refusal, SuperVersion, SvSerial, VersionId,
+    Descriptor, ListId, MAX_PLACES, MAX_SUPERS, MemId, Pack, PlacedRegister, Refusal, SuperVersion,
+    SvSerial, VersionId,
 };
-
-/// How many SuperVersions are made at most.
-pub const MAX_MADE: u64 = 1_048_576;
-
-/// How many SuperVersions are Live at most: each has a place of its own.
-pub const MAX_LIVE: usize = 256;
 
 /// Every SuperVersion ever made, by its serial, which is never used again. Contracts see the list of
 /// their records.
 #[derive(Drop)]
 pub struct Registry {
-    supers: PlacedRegister<SuperVersion, MAX_LIVE>,
+    supers: PlacedRegister<SuperVersion, MAX_PLACES>,
 }
 
 impl Model for Registry {
@@ -107,7 +102,7 @@ impl Registry {
         ensures kept { OnErr result (self.new ≡ self.old) }
         ensures places { HaveOwnPlaces self.new }
     {
-        if self.supers.made() >= MAX_MADE {
+        if self.supers.made() >= MAX_SUPERS {
             return Err(Refusal::RegisterFull);
         }
         let Some(place) = self.supers.room() else {
@@ -207,6 +202,6 @@ impl Registry {
     pub fn all_made(&self) -> bool
         ensures { make_refusal self.now ≡ cond result (Some RegisterFull) (full_refusal self.now) }
     {
-        self.supers.made() >= MAX_MADE
+        self.supers.made() >= MAX_SUPERS
     }
 }

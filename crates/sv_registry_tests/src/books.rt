@@ -2,8 +2,8 @@
 ghost use Rattle.std.specs.Prelude.{◌<◌};
 
 use std::alloc::Global;
-use sv_files::{FileBook, MAX_JOBS, Settled};
-use sv_model::{FamilyId, FileNumber, FileStatus, Refusal};
+use sv_files::{FileBook, Settled};
+use sv_model::{FamilyId, FileNumber, FileStatus, MAX_JOBS, Refusal};
 
 pub fn capture(book: &mut FileBook, family: u8) -> Result<FileNumber, Refusal>
     requires { family < 16 }

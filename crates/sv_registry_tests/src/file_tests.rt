@@ -4,8 +4,8 @@ use crate::books::{
 };
 use std::alloc::Global;
 use std::rt::HostRuntime;
-use sv_files::{FileBook, MAX_CAPTURED, Settled};
-use sv_model::{FamilyId, FileNumber, FileStatus, Refusal};
+use sv_files::{FileBook, Settled};
+use sv_model::{FamilyId, FileNumber, FileStatus, MAX_CAPTURED, Refusal};
 
 #[test]
 fn captures_and_settles(rt: HostRuntime) {

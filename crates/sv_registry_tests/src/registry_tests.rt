@@ -1,7 +1,10 @@
 // The registry of SuperVersions: its limits, its places, and what a reclaimed one gives back.
 use std::rt::HostRuntime;
-use sv_model::{Descriptor, FamilyId, ListId, MemId, Options, Pack, Refusal, SvSerial, VersionId};
-use sv_registry::{Freed, MAX_LIVE, MAX_MADE, Registry};
+use sv_model::{
+    Descriptor, FamilyId, ListId, MAX_PLACES, MAX_SUPERS, MemId, Options, Pack, Refusal, SvSerial,
+    VersionId,
+};
+use sv_registry::{Freed, Registry};
 
 fn descriptor(active: u32, list: u32, version: u32) -> Descriptor {
     Descriptor {
@@ -24,7 +27,7 @@ fn pack(serial: u32, place: u8) -> Pack {
 #[test]
 fn makes_as_many_as_there_are_serials(rt: HostRuntime) {
     let mut registry = Registry::new(rt.alloc());
-    for serial in 1..=MAX_MADE as u32 {
+    for serial in 1..=MAX_SUPERS as u32 {
         let Ok(made) = registry.make(descriptor(serial, 1, 1)) else {
             panic!(rt; "serial {serial} was not made");
         };
@@ -41,7 +44,7 @@ fn makes_as_many_as_there_are_serials(rt: HostRuntime) {
 #[test]
 fn has_a_place_for_each_live_one(rt: HostRuntime) {
     let mut registry = Registry::new(rt.alloc());
-    for place in 0..MAX_LIVE {
+    for place in 0..MAX_PLACES {
         let made = registry.make(descriptor(1, 1, 1));
         assert_eq!(rt; made, Ok(pack(place as u32 + 1, place as u8)));
     }

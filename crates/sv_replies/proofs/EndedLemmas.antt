@@ -10,7 +10,7 @@ use Rattle.sv_script.specs.declared.commands.Command.{Command}
 use Rattle.sv_script.specs.declared.commands.Command.TheVariants as command
 use Rattle.sv_script.specs.declared.replies.Reply.{Reply}
 use Rattle.sv_script.specs.declared.replies.Reply.TheVariants as reply
-use Rattle.sv_laws.proofs.Items.{in-left, in-right}
+use Rattle.sv_model.proofs.Entries.{in-left, in-right}
 use Rattle.sv_replies.specs.Known.{FamilyKnown, Known, as_dropped, at_first, family_of_pin, flushed_to, known_after, learn, learns, met, pinned, reached_to, read, read_at, saw, touches, wrote}
 use Rattle.sv_replies.specs.LanesFit.{ended_by, ended_of}
 use Rattle.sv_replies.proofs.KnowsLaws.{at-other}

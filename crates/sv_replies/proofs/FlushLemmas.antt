@@ -9,7 +9,7 @@ use Rattle.sv_model.specs.Steady.{Sound}
 use Rattle.sv_laws.specs.Captures.{IsFlushBegun}
 use Rattle.sv_laws.specs.NewCurrents.{IsFlushed}
 use Rattle.sv_laws.specs.Installs.{next_top}
-use Rattle.sv_laws.proofs.Items.{in-right}
+use Rattle.sv_model.proofs.Entries.{in-right}
 use Rattle.sv_laws.proofs.OpenFamilies.{ends-at}
 use Rattle.sv_laws.proofs.Outputs.{is-some}
 use Rattle.sv_script.specs.declared.commands.Command.TheVariants as command

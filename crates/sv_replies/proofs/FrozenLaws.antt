@@ -13,7 +13,7 @@ use Rattle.sv_model.specs.Families.{first_options}
 use Rattle.sv_model.specs.Openings.{opening_books}
 use Rattle.sv_model.specs.Registers.{GoesOn, change, entry}
 use Rattle.sv_model.specs.Steady.{IsCurrent, Sound}
-use Rattle.sv_model.proofs.Basics.{apart_or}
+use Rattle.sv_model.proofs.Basics.{apart_or, none_some}
 use Rattle.sv_model.proofs.Registers.{entry-new, entry-old, entry_change, entry_le, entry_push, goes-push, goes-same}
 use Rattle.sv_model.proofs.AfterLaws.{list-itself}
 use Rattle.sv_laws.specs.Changes.{Changes, cleaned, compacted, created, current_ended, dropped, flush_begun, flushed, given_up, grabbed, held, merge_planned, opened, option_set, released, retired, snapped, stray, switched, unsnapped, written}
@@ -21,7 +21,7 @@ use Rattle.sv_laws.specs.Cleaning.{IsCleaned}
 use Rattle.sv_laws.specs.Growing.{IsPlaced}
 use Rattle.sv_laws.specs.Installs.{live_super, next_top}
 use Rattle.sv_laws.proofs.Growing.{placed-push, placed-set}
-use Rattle.sv_laws.proofs.Items.{entry_one, in-right, none_some, some}
+use Rattle.sv_model.proofs.Entries.{entry_one, in-right, some}
 use Rattle.sv_laws.proofs.OpenFamilies.{current-top, of_f}
 use Rattle.sv_replies.specs.FrozenActives.{ActivesAreFrozen, IsActiveOrListed, WasListed}
 use Rattle.sv_replies.proofs.AfterLemmas.{has-later}

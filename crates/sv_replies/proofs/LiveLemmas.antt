@@ -14,7 +14,7 @@ use Rattle.sv_model.specs.Registers.{entry}
 use Rattle.sv_model.specs.Steady.{IsCurrent, Sound}
 use Rattle.sv_laws.specs.Installs.{IsOpen}
 use Rattle.sv_laws.proofs.Growing.{get_within}
-use Rattle.sv_laws.proofs.Items.{in-suc, some}
+use Rattle.sv_model.proofs.Entries.{in-suc, some}
 use Rattle.sv_laws.proofs.OpenFamilies.{of_f, one-current, says}
 use Rattle.sv_script.specs.declared.commands.Command.TheVariants as command
 use Rattle.sv_script.specs.declared.replies.Reply.TheVariants as reply

@@ -8,8 +8,9 @@ use Rattle.sv_model.specs.Lawful.{Lawful}
 use Rattle.sv_model.specs.Lists.{In}
 use Rattle.sv_model.specs.Moments.{WasCapturedFor}
 use Rattle.sv_model.specs.Named.{numbers_of}
-use Rattle.sv_laws.proofs.Growing.{get-some, get_within}
-use Rattle.sv_laws.proofs.Items.{in-none, some}
+use Rattle.sv_laws.proofs.Growing.{get_within}
+use Rattle.sv_model.proofs.Registers.{get-some}
+use Rattle.sv_model.proofs.Entries.{in-none, some}
 use Rattle.sv_replies.specs.Known.{Known}
 use Rattle.sv_replies.specs.Knows.{Knows}
 use Rattle.sv_replies.specs.LiveLaw.{CoversFamily, IsListedFor, Lives}

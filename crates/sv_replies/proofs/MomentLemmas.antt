@@ -16,7 +16,7 @@ use Rattle.sv_model.specs.Reads.{IsCapturedFor}
 use Rattle.sv_model.specs.Registers.{Has, entry}
 use Rattle.sv_model.specs.Steady.{Sound}
 use Rattle.sv_laws.specs.Installs.{IsOpen}
-use Rattle.sv_laws.proofs.Items.{in-suc, some}
+use Rattle.sv_model.proofs.Entries.{in-suc, some}
 use Rattle.sv_laws.proofs.OpenFamilies.{ends-at, last-files, member, of_f, says}
 use Rattle.sv_laws.proofs.StillFits.{join-le, join_reach}
 use Rattle.sv_replies.specs.Known.{Known}

@@ -13,7 +13,7 @@ use Rattle.sv_model.specs.Books.{Books}
 use Rattle.sv_model.specs.Lists.{Distinct, In}
 use Rattle.sv_model.specs.Numbers.{HasStatus, IsRegistered}
 use Rattle.sv_script.specs.Answered.{Answered}
-use Rattle.sv_laws.proofs.Items.{in_append}
+use Rattle.sv_model.proofs.Entries.{in_append}
 use Rattle.sv_replies.specs.LanesFit.{ended, ended_by, ended_of, purged, purged_by, purged_of}
 use Rattle.sv_replies.specs.SnapLaw.{IsOver}
 use Rattle.sv_replies.specs.Moments.{IsIn}

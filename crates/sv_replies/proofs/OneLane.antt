@@ -5,7 +5,7 @@ use Rattle.sv_model.specs.declared.refusals.Refusal.TheVariants as refusal
 use Rattle.sv_model.specs.Books.{Books}
 use Rattle.sv_model.specs.Journal.{by_lane, change_of}
 use Rattle.sv_model.specs.Lists.{Distinct, Every, In}
-use Rattle.sv_laws.proofs.Items.{get_one}
+use Rattle.sv_model.proofs.Entries.{get_one}
 use Rattle.sv_script.specs.Answered.{Answered}
 use Rattle.sv_script.specs.declared.commands.Command.{Command}
 use Rattle.sv_script.specs.declared.commands.Command.TheVariants as command

@@ -9,11 +9,12 @@ use Rattle.sv_model.specs.Registers.{entry}
 use Rattle.sv_model.specs.Families.{IsOwn, default_family, default_name}
 use Rattle.sv_model.specs.Openings.{IsOpening, opening_books}
 use Rattle.sv_laws.proofs.Growing.{get_within}
-use Rattle.sv_laws.proofs.Items.{some}
+use Rattle.sv_model.proofs.Entries.{some}
 use Rattle.sv_replies.specs.Known.{at_first}
 use Rattle.sv_replies.specs.Knows.{AllAreOwn, Knows, OwnAre}
 use Rattle.sv_replies.specs.Moments.{IsAt, IsNamed}
 use Rattle.sv_replies.proofs.KnowsLaws.{unequal}
+use Rattle.sv_model.proofs.Basics.{none_some}
 
 -- the one handle is that of `default`
 only_default : (name : List ℕ) (f : ℕ) → at_first.handles name ≡ Some f → (name ≡ default_name) × (f ≡ 0)
@@ -24,9 +25,6 @@ only_default name f e = ⊎_elim
   where
     pick : Bool → Option ℕ
     pick q = if q then Some 0 else None
-
-    none_some : (n : ℕ) → None ≡ Some n → ⊥
-    none_some n e = absurd (cc)
 
 has_default : (name : List ℕ) → name ≡ default_name → at_first.handles name ≡ Some 0
 has_default name e = ap (λ (q : Bool). if q then Some 0 else None) ((bytes_eq-Decides name default_name).1 e)

@@ -7,12 +7,13 @@ use Rattle.sv_model.specs.declared.settings.Options.{Options}
 use Rattle.sv_model.specs.Books.{Books}
 use Rattle.sv_model.specs.Families.{IsOwn}
 use Rattle.sv_model.specs.Journal.{by_lane}
-use Rattle.sv_model.proofs.Basics.{apart_or}
+use Rattle.sv_model.proofs.Basics.{apart_or, none_some}
 use Rattle.sv_laws.specs.Families.{IsDropped, IsOpened, released}
 use Rattle.sv_laws.specs.Growing.{IsPlaced}
 use Rattle.sv_laws.specs.NewCurrents.{IsFamilyMade, IsOptionSet}
-use Rattle.sv_laws.proofs.Growing.{get-some, get_within, placed-push, placed-set}
-use Rattle.sv_laws.proofs.Items.{some}
+use Rattle.sv_laws.proofs.Growing.{get_within, placed-push, placed-set}
+use Rattle.sv_model.proofs.Registers.{get-some}
+use Rattle.sv_model.proofs.Entries.{some}
 use Rattle.sv_replies.specs.Known.{Known, as_dropped, has_handle, learns, with_handle}
 use Rattle.sv_replies.specs.Knows.{OwnAre}
 use Rattle.sv_replies.specs.Moments.{IsAt}
@@ -60,9 +61,6 @@ module _ (lane : ℕ) (a b : Books) (k : Known) (own : OwnAre lane a k) (name : 
   given_back : (other : List ℕ) → IsOwn lane other (released it lane) → ⊥
   given_back other h =
       absurd (let e : false ≡ true = some (sym (set_here it.handles lane false (get_within it.handles lane true handle)) ∙ h.handle) in cc)
-
-  none_some : (g : ℕ) → None ≡ Some g → ⊥
-  none_some g e = absurd (cc)
 
   to : (other : List ℕ) (g : ℕ) → with_handle k.handles name None other ≡ Some g → IsAt (IsOwn lane other) b.families g
   to other g e = ⊎_elim

@@ -10,13 +10,13 @@ use Rattle.sv_model.specs.Books.{Books}
 use Rattle.sv_model.specs.Families.{IsOwn}
 use Rattle.sv_model.specs.Journal.{by_lane}
 use Rattle.sv_laws.specs.Writes.{IsWritten}
-use Rattle.sv_laws.proofs.Items.{some}
+use Rattle.sv_model.proofs.Entries.{some}
 use Rattle.sv_laws.specs.Growing.{IsPlaced}
 use Rattle.sv_replies.specs.Known.{Known, has_handle, with_handle, wrote}
 use Rattle.sv_replies.specs.Knows.{OwnAre}
 use Rattle.sv_replies.specs.Moments.{IsAt}
 use Rattle.sv_replies.proofs.KnowsLaws.{unequal}
-use Rattle.sv_model.proofs.Basics.{apart_or}
+use Rattle.sv_model.proofs.Basics.{apart_or, none_some}
 
 abbrev Own : ℕ → List ℕ → List Family → ℕ → Type 0
 Own lane name families f = IsAt (IsOwn lane name) families f
@@ -117,9 +117,6 @@ module _ (lane : ℕ) (a b : Books) (k : Known) (own : OwnAre lane a k) (name : 
     (placed : IsPlaced a.families b.families id r) (is : IsOwn lane name r) (free : k.handles name ≡ None)
     (before : (x : Family) (other : List ℕ) → slice_get a.families id ≡ Some x → IsOwn lane other x → other ≡ name)
     (holds : b.files.holds ≡ a.files.holds) (journal : b.journal ≡ a.journal) where
-  none_some : (f : ℕ) → k.handles name ≡ Some f → ⊥
-  none_some f e = absurd (let q : None ≡ Some f = sym free ∙ e in cc)
-
   here_only : (other : List ℕ) → IsOwn lane other r → other ≡ name
   here_only other own = sym own.name_is ∙ is.name_is
 

@@ -11,7 +11,7 @@ use Rattle.sv_model.specs.Journal.{borne_by, look, of_family}
 use Rattle.sv_model.specs.Reads.{Serves}
 use Rattle.sv_model.specs.Registers.{entry}
 use Rattle.sv_model.specs.Steady.{IsCurrent, Sound}
-use Rattle.sv_laws.proofs.Items.{some}
+use Rattle.sv_model.proofs.Entries.{some}
 use Rattle.sv_laws.proofs.OpenFamilies.{current-top}
 use Rattle.sv_replies.specs.FrozenActives.{ActivesAreFrozen}
 use Rattle.sv_replies.specs.GetpLaw.{EndsAt, GetsPinned}

@@ -9,7 +9,7 @@ use Rattle.sv_model.specs.Journal.{by_lane, of_family}
 use Rattle.sv_model.specs.Registers.{entry}
 use Rattle.sv_model.proofs.Registers.{entry-new, entry-same, entry_le}
 use Rattle.sv_laws.specs.Snapping.{IsSnapped, IsUnsnapped}
-use Rattle.sv_laws.proofs.Items.{some}
+use Rattle.sv_model.proofs.Entries.{some}
 use Rattle.sv_script.specs.declared.commands.Command.TheVariants as command
 use Rattle.sv_script.specs.declared.replies.Reply.{Reply}
 use Rattle.sv_script.specs.declared.replies.Reply.TheVariants as reply

@@ -7,7 +7,7 @@ use Rattle.sv_model.specs.Books.{Books}
 use Rattle.sv_model.specs.Journal.{Change}
 use Rattle.sv_model.specs.Lawful.{Lawful}
 use Rattle.sv_model.specs.Openings.{opening_books}
-use Rattle.sv_laws.proofs.Items.{get_none}
+use Rattle.sv_model.proofs.Entries.{get_none}
 use Rattle.sv_laws.proofs.Opened.{first-opening}
 use Rattle.sv_script.specs.Answered.{Answered}
 use Rattle.sv_replies.specs.Answers.{Answers, KnowsAll}

@@ -7,6 +7,7 @@ use Rattle.sv_model.specs.Books.{Books}
 use Rattle.sv_model.specs.Registers.{entry, Has}
 use Rattle.sv_model.specs.Moments.{ReachesTo}
 use Rattle.sv_replies.specs.Known.{Known}
+use Rattle.sv_model.specs.declared.limits.TheConstants.{MAX_SNAPSHOTS, MAX_WRITES}
 
 -- item number n of the list, from 0, is so
 abbrev pub IsAt : {A : Type 0} → (A → Type 0) → List A → ℕ → Type 0
@@ -48,14 +49,14 @@ abbrev pub WereManyFamilies : Books → Type 0
 WereManyFamilies books = 16 ≤ length books.families
 
 abbrev pub WasJournalFull : Books → Type 0
-WasJournalFull books = 262144 ≤ length books.journal
+WasJournalFull books = MAX_WRITES ≤ length books.journal
 
 -- 64 snapshots were made, or all that may ever be
 abbrev pub WereManySnapshots : Books → Type 0
 WereManySnapshots books = 64 ≤ length books.snapshots
 
 abbrev pub WereAllSnapped : Books → Type 0
-WereAllSnapped books = 1048576 ≤ length books.snapshots
+WereAllSnapped books = MAX_SNAPSHOTS ≤ length books.snapshots
 
 -- a file with nothing below it, captured for the family, that reaches this write
 pub record IsMergedTo (books : Books) (family upto : ℕ) (file : FileMeta) : Type 0 where

@@ -8,7 +8,7 @@ use lib.ListN.{get_elem?}
 use Rattle.atomic_table.specs.Table.{State, rest}
 use Rattle.sv_model.specs.Books.{Books}
 use Rattle.sv_model.specs.Cells.{Cell}
-use Rattle.sv_model.specs.Lists.{same, total}
+use Rattle.sv_model.specs.Lists.{same, total, at}
 use Rattle.sv_rule.specs.Blanks.{no_locks}
 use Rattle.sv_rule.specs.Fresh.{Fresh, FreshOf}
 use Rattle.sv_rule.specs.Home.{IsState, Lock, SlotOk}
@@ -16,7 +16,7 @@ use Rattle.sv_rule.specs.Ledger.{Places, most_hand}
 use Rattle.sv_rule.specs.Numbers.{Numbers}
 use Rattle.sv_rule.specs.Rounds.{Rounds}
 use Rattle.sv_rule.specs.Rule.{Kept}
-use Rattle.sv_rule.specs.Sums.{Each, at}
+use Rattle.sv_rule.specs.Sums.{Each}
 use Rattle.sv_rule.specs.Sweep.{Right, Rights}
 use Rattle.sv_rule.specs.Table.{Box, cached_at, holders, holds, home, number, number_word, owers, owes, reference, reference_word, slot, slot_at, slot_home, slot_of, slot_word, spot, word}
 use Rattle.sv_rule.specs.Tasks.{has_db}

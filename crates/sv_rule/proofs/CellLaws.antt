@@ -7,12 +7,11 @@ use Rattle.sv_model.specs.Registers.{EachEntry, entry}
 use Rattle.sv_model.specs.declared.records.Memtable.{Memtable}
 use Rattle.sv_model.specs.declared.writes.Write.{Write}
 use Rattle.sv_model.proofs.FlatKeys.{gone}
-use Rattle.sv_model.proofs.Registers.{entry-old, entry_le, entry_push}
+use Rattle.sv_model.proofs.Registers.{entry-old, entry_le, entry_push, entry-some}
 use Rattle.sv_rule.specs.Held.{CellSays, Occupied, fills_up, has_rows, is_due, is_vacant}
-use Rattle.sv_rule.specs.Sums.{at}
-use Rattle.sv_rule.specs.Turns.{EndsMemtables}
+use Rattle.sv_model.specs.Lists.{at}
+use Rattle.sv_model.specs.Turns.{EndsMemtables}
 use Rattle.sv_rule.proofs.Basics.{append_none, some_is, true_not}
-use Rattle.sv_rule.proofs.LaterBooks.{entry-some}
 
 -- a cell may be due more often, and its lock be had by more
 pub says-more : (memtables : List Memtable) (journal : List Write) (due due' fill fill' c : ℕ) (x : Option Cell)

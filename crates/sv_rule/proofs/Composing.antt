@@ -8,9 +8,8 @@ use Rattle.sv_model.specs.declared.writes.Write.{Write}
 use Rattle.sv_model.proofs.AfterLaws.{after-through}
 use Rattle.sv_model.proofs.FlatFirsts.{marks}
 use Rattle.sv_model.proofs.Lists.{total_at}
-use Rattle.sv_rule.specs.Tasks.{grabs, has_job, job_count, marks_of}
-use Rattle.sv_rule.specs.Turns.{IsFresh, IsOutput, IsWritten, Stands, Turns, taken_mark}
-use Rattle.sv_rule.specs.Views.{Mark, Output, Task}
+use Rattle.sv_model.specs.Tasks.{grabs, has_job, job_count, marks_of, Mark, Output, Task}
+use Rattle.sv_model.specs.Turns.{IsFresh, IsOutput, IsWritten, Stands, Turns, taken_mark}
 use Rattle.sv_rule.proofs.Basics.{every_append, some_is}
 use Rattle.sv_rule.proofs.LaterBooks.{in-more}
 use Rattle.sv_rule.proofs.Sums.{same-self}

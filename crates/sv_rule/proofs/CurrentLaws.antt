@@ -9,8 +9,8 @@ use Rattle.sv_model.specs.declared.records.SuperVersion.{SuperVersion}
 use Rattle.sv_model.specs.declared.records.Top.{Top}
 use Rattle.sv_model.proofs.Basics.{none_some}
 use Rattle.sv_model.proofs.Registers.{entry_le}
-use Rattle.sv_rule.specs.Sums.{at}
-use Rattle.sv_rule.specs.Supers.{IsPackOf, IsSerialOf, LiveAt, current_of, current_serial, end_at, end_in, has_current, pack, pack_at, pack_of_serial, writes}
+use Rattle.sv_model.specs.Lists.{at}
+use Rattle.sv_model.specs.Supers.{IsPackOf, IsSerialOf, LiveAt, current_of, current_serial, end_at, end_in, has_current, pack, pack_at, pack_of_serial, writes}
 use Rattle.sv_rule.proofs.Basics.{some_is}
 
 pub some-at : {A : Type 0} (l : List A) (n : ℕ) → n < length l → (x : A) × (slice_get l n ≡ Some x)

@@ -8,14 +8,14 @@ use lib.ListN.{get_elem?}
 use Rattle.sv_model.specs.Books.{Books}
 use Rattle.sv_model.specs.Families.{is_retired}
 use Rattle.sv_model.specs.Lawful.{Lawful}
-use Rattle.sv_model.specs.Lists.{In, times}
+use Rattle.sv_model.specs.Lists.{In, times, at}
 use Rattle.sv_model.specs.declared.records.Family.{Family}
 use Rattle.sv_rule.specs.InHand.{CurrentsStand, IsClosing}
-use Rattle.sv_rule.specs.Sums.{Each, at}
-use Rattle.sv_rule.specs.Supers.{current_serial, pack_of_serial}
+use Rattle.sv_rule.specs.Sums.{Each}
+use Rattle.sv_model.specs.Supers.{current_serial, pack_of_serial}
+use Rattle.sv_model.specs.Turns.{NoneRetires, Opens}
 use Rattle.sv_rule.specs.Table.{number}
 use Rattle.sv_rule.specs.Tasks.{has_db}
-use Rattle.sv_rule.specs.Turns.{NoneRetires, Opens}
 use Rattle.sv_rule.specs.UnderWay.{excepts}
 use Rattle.sv_rule.specs.Views.{Joined, LaneView, Seat, Work}
 use Rattle.sv_rule.proofs.Basics.{each_set, some_is, true_not, views-else, views-here}

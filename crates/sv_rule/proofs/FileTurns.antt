@@ -8,7 +8,7 @@ use Rattle.sv_model.specs.Books.{Books}
 use Rattle.sv_model.specs.Files.{Files, file_name, file_of}
 use Rattle.sv_model.specs.HeldFiles.{GoneAreAbsent, HasItsText, HoldsText, IsFileText}
 use Rattle.sv_model.specs.Lawful.{Lawful}
-use Rattle.sv_model.specs.Lists.{Every, In}
+use Rattle.sv_model.specs.Lists.{Every, In, at}
 use Rattle.sv_model.specs.Numbers.{having, is_live, is_pending, registered}
 use Rattle.sv_model.specs.Summaries.{is_gone}
 use Rattle.sv_model.specs.TableText.{covers}
@@ -16,15 +16,14 @@ use Rattle.sv_model.specs.declared.records.RegisteredFile.{RegisteredFile}
 use Rattle.sv_model.specs.declared.writes.Write.{Write}
 use Rattle.sv_rule.specs.Held.{FilesHeld, Told}
 use Rattle.sv_rule.specs.InHand.{IsThere, WorkHeld}
-use Rattle.sv_rule.specs.Sums.{at}
+use Rattle.sv_model.specs.Tasks.{has_output, marks_of, output_count, Output, Task}
+use Rattle.sv_model.specs.Turns.{IsWritten, Turns, taken_mark}
 use Rattle.sv_rule.specs.Table.{number}
-use Rattle.sv_rule.specs.Tasks.{has_output, marks_of, output_count}
-use Rattle.sv_rule.specs.Turns.{IsWritten, Turns, taken_mark}
-use Rattle.sv_rule.specs.Views.{Disk, LaneView, Output, Start, Task, Work}
+use Rattle.sv_rule.specs.Views.{Disk, LaneView, Start, Work}
 use Rattle.sv_rule.proofs.Basics.{each_set, get_none}
 use Rattle.sv_rule.proofs.FitLaws.{text-stays}
 use Rattle.sv_rule.proofs.LaterBooks.{in-more}
-use Rattle.sv_rule.proofs.Metas.{covered, one-meta}
+use Rattle.sv_model.proofs.Metas.{covered, one-meta}
 use Rattle.sv_rule.proofs.Statuses.{gone-having, gone-registered, live-having, live-registered, once-same, registered-has, statuses}
 use Rattle.sv_rule.proofs.Stepping.{view_le}
 use Rattle.sv_rule.proofs.Sums.{same_one}

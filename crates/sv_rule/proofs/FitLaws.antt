@@ -21,13 +21,14 @@ use Rattle.sv_model.specs.declared.records.SuperVersion.{SuperVersion}
 use Rattle.sv_model.specs.declared.writes.Write.{Write}
 use Rattle.sv_model.proofs.AfterLaws.{after-through, continues-through}
 use Rattle.sv_rule.specs.Fits.{BodyFits, Fits, IsClosed, IsFrozenAt, IsGoneSnapshot, ReadFits, RowsFit, Together}
-use Rattle.sv_rule.specs.Supers.{IsSerialOf}
+use Rattle.sv_model.specs.Supers.{IsSerialOf}
 use Rattle.sv_rule.specs.Views.{Bodied, FileRead, FrozenAt, Known, Load, RowsRead}
 use Rattle.sv_rule.proofs.Basics.{every_map, some_is}
 use Rattle.sv_rule.proofs.CurrentLaws.{pack_le, serial_le}
-use Rattle.sv_rule.proofs.LaterBooks.{continues-filter, continues-length, continues-map, entry-some, get-map, goes-long, in-more, pack-after, writes-after}
-use Rattle.sv_rule.proofs.Metas.{captured-goes}
-use Rattle.sv_rule.proofs.PassedRows.{passed-stays, range-stays}
+use Rattle.sv_rule.proofs.LaterBooks.{get-map, goes-long, in-more, pack-after, writes-after}
+use Rattle.sv_model.proofs.PassedRows.{continues-filter, continues-length, continues-map, passed-stays, range-stays}
+use Rattle.sv_model.proofs.Registers.{entry-some}
+use Rattle.sv_model.proofs.Metas.{captured-goes}
 
 pub continues-on : {A : Type 0} (a b c : List A) → Continues a b → Continues b c → Continues a c
 continues-on = continues-through

@@ -8,7 +8,7 @@ use Rattle.sv_model.specs.Lists.{same, total}
 use Rattle.sv_model.specs.Places.{taken}
 use Rattle.sv_model.specs.Registers.{entry}
 use Rattle.sv_rule.specs.Fresh.{FreshOf, Past, floor_of}
-use Rattle.sv_rule.specs.Supers.{IsPackOf, current_of, end_at, end_in}
+use Rattle.sv_model.specs.Supers.{IsPackOf, current_of, end_at, end_in}
 use Rattle.sv_rule.specs.Sweep.{pack_of}
 use Rattle.sv_rule.specs.UnderWay.{Stock}
 use Rattle.sv_rule.specs.Views.{SlotView, Work, begun, idle, opens, sweeping}

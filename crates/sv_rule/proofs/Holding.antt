@@ -6,7 +6,7 @@ use Rattle.sv_model.specs.declared.records.SuperVersion.{SuperVersion}
 use Rattle.sv_rule.specs.Holding.{Holder, by_hand, by_number, by_slot, by_word, holders_of, in_views, over, upto}
 use Rattle.sv_rule.specs.Ledger.{Counted, Places, Vacant}
 use Rattle.sv_rule.specs.Sums.{below}
-use Rattle.sv_rule.specs.Supers.{LiveAt, pack}
+use Rattle.sv_model.specs.Supers.{LiveAt, pack}
 use Rattle.sv_rule.specs.Table.{holders, holds, names, number, owers, reference, slot}
 use Rattle.sv_rule.specs.Views.{LaneView}
 

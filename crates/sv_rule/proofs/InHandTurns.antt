@@ -9,7 +9,7 @@ use lib.ListN.{get_elem?}
 use Rattle.sv_model.specs.Books.{Books}
 use Rattle.sv_model.specs.Journal.{by_lane}
 use Rattle.sv_model.specs.Lawful.{Lawful}
-use Rattle.sv_model.specs.Lists.{Every, In, same, times, total}
+use Rattle.sv_model.specs.Lists.{Every, In, same, times, total, at}
 use Rattle.sv_model.specs.Numbers.{IsRegistered, having, is_grabbed, is_live, is_pending}
 use Rattle.sv_model.specs.Registers.{entry}
 use Rattle.sv_model.specs.declared.records.FileStatus.TheVariants.{Gone}
@@ -18,11 +18,12 @@ use Rattle.sv_model.specs.declared.writes.Write.{Write}
 use Rattle.sv_model.proofs.Lists.{times_in, total_at}
 use Rattle.sv_rule.specs.Fits.{IsGoneSnapshot}
 use Rattle.sv_rule.specs.InHand.{Accounts, CurrentsStand, IsQuiet, IsThere, WorkHeld}
-use Rattle.sv_rule.specs.Sums.{Each, at}
-use Rattle.sv_rule.specs.Tasks.{endings, faults, gone_count, gone_snapshot, grabs, handle, handles_of, has_db, has_job, has_output, holds_of, lanes, own_lane, removals}
-use Rattle.sv_rule.specs.Turns.{IsFresh, IsOutput, OwnTurns}
+use Rattle.sv_rule.specs.Sums.{Each}
+use Rattle.sv_model.specs.Tasks.{gone_count, gone_snapshot, grabs, handle, has_job, has_output, Output, Task}
+use Rattle.sv_model.specs.Turns.{IsFresh, IsOutput, OwnTurns}
+use Rattle.sv_rule.specs.Tasks.{endings, faults, handles_of, has_db, holds_of, lanes, own_lane, removals}
 use Rattle.sv_rule.specs.UnderWay.{excepts}
-use Rattle.sv_rule.specs.Views.{Disk, Joined, Known, LaneView, Output, Start, Task, Work}
+use Rattle.sv_rule.specs.Views.{Disk, Joined, Known, LaneView, Start, Work}
 use Rattle.sv_rule.proofs.Basics.{append_none, each_other, each_set, get_none, true_not}
 use Rattle.sv_rule.proofs.FitLaws.{fits-after}
 use Rattle.sv_rule.proofs.LaterBooks.{in-more}

@@ -10,10 +10,10 @@ use Rattle.sv_model.specs.Registers.{entry}
 use Rattle.sv_model.proofs.Registers.{entry-old, entry_push}
 use Rattle.sv_rule.specs.Numbers.{NumberOk}
 use Rattle.sv_rule.specs.Rule.{Kept}
-use Rattle.sv_rule.specs.Supers.{IsPackOf, IsSerialOf, current_of}
+use Rattle.sv_model.specs.Supers.{IsPackOf, IsSerialOf, current_of}
+use Rattle.sv_model.specs.Turns.{Opens}
 use Rattle.sv_rule.specs.Sweep.{Right}
 use Rattle.sv_rule.specs.Table.{cached_at, number, slot, slot_at, spot}
-use Rattle.sv_rule.specs.Turns.{Opens}
 use Rattle.sv_rule.specs.UnderWay.{excepts, fit, middle}
 use Rattle.sv_rule.specs.Views.{Body, Disk, LaneView, Work, begun, idle, sweeping}
 use Rattle.sv_rule.specs.declared.parts.Stored.{Stored}

@@ -8,26 +8,17 @@ use Rattle.sv_model.specs.Books.{Books, end_of}
 use Rattle.sv_model.specs.Described.{BearsFrom}
 use Rattle.sv_model.specs.Journal.{borne_by, of_family}
 use Rattle.sv_model.specs.Lawful.{Lawful}
-use Rattle.sv_model.specs.Lists.{In, same}
+use Rattle.sv_model.specs.Lists.{In, same, at}
 use Rattle.sv_model.specs.Registers.{EachEntry, GoesOn, entry}
 use Rattle.sv_model.specs.declared.records.Descriptor.{Descriptor}
 use Rattle.sv_model.specs.declared.records.Memtable.{Memtable}
 use Rattle.sv_model.specs.declared.records.SuperVersion.{SuperVersion}
 use Rattle.sv_model.specs.declared.writes.Write.{Write}
-use Rattle.sv_model.proofs.Registers.{entry_le}
+use Rattle.sv_model.proofs.Registers.{entry_le, entry-some}
 use Rattle.sv_rule.specs.Numbers.{IsBased}
-use Rattle.sv_rule.specs.Sums.{at}
-use Rattle.sv_rule.specs.Supers.{IsPackOf, IsSerialOf, end_at, end_in, writes}
+use Rattle.sv_model.specs.Supers.{IsPackOf, IsSerialOf, end_at, end_in, writes}
 use Rattle.sv_rule.proofs.CurrentLaws.{some-at}
-
-pub continues-filter : {A : Type 0} (p : A → Bool) (a b : List A) → Continues a b → Continues (filter p a) (filter p b)
-continues-filter p a b h = (filter p h.0, ap (filter p) h.1 ∙ filter-append p a h.0)
-
-pub continues-map : {A B : Type 0} (f : A → B) (a b : List A) → Continues a b → Continues (map f a) (map f b)
-continues-map f a b h = (map f h.0, ap (map f) h.1 ∙ map-append f a h.0)
-
-pub continues-length : {A : Type 0} (a b : List A) → Continues a b → length a ≤ length b
-continues-length a b h = omega (arith, ap length h.1, length-append a h.0)
+use Rattle.sv_model.proofs.PassedRows.{continues-filter, continues-length}
 
 -- what stood in front stands there still
 get-old : {A : Type 0} (l m : List A) (n : ℕ) (x : A) → slice_get l n ≡ Some x → slice_get (l ++ m) n ≡ Some x
@@ -144,10 +135,6 @@ based-live b lawful t x at live =
     }
 
 -- a register that goes on is as long
-pub entry-some : {A : Type 0} (l : List A) (n : ℕ) → 0 < n → n ≤ length l → (x : A) × (entry l n ≡ Some x)
-entry-some l zero pos h = absurd (omega arith)
-entry-some l (suc n) pos h = some-at l n (omega arith)
-
 pub goes-long : {A : Type 0} (R : A → A → Type 0) (a b : List A) → GoesOn R a b → length a ≤ length b
 goes-long R a b goes = by (length a) refl
   where

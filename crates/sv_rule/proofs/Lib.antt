@@ -10,8 +10,6 @@ pub mod NumberWorks
 pub mod FreshTurns
 pub mod RoundTurns
 pub mod RoundRises
-pub mod PassedRows
-pub mod Metas
 pub mod Statuses
 pub mod FitLaws
 pub mod InHandTurns

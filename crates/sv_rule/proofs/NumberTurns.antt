@@ -6,16 +6,15 @@ use native.Mathlib.Decide.{ℕ_discrete}
 use Rattle.sv_model.specs.After.{After}
 use Rattle.sv_model.specs.Books.{Books}
 use Rattle.sv_model.specs.Lawful.{Lawful}
-use Rattle.sv_model.specs.Lists.{same}
+use Rattle.sv_model.specs.Lists.{same, at}
 use Rattle.sv_model.specs.Registers.{EachEntry, entry}
 use Rattle.sv_model.specs.declared.records.SuperVersion.{SuperVersion}
 use Rattle.sv_model.specs.declared.records.Top.{Top}
 use Rattle.sv_model.proofs.Registers.{entry-new, entry_push}
 use Rattle.sv_rule.specs.Numbers.{IsBased, Numbers}
-use Rattle.sv_rule.specs.Sums.{at}
-use Rattle.sv_rule.specs.Supers.{IsPackOf, IsSerialOf, LiveAt, current_in, current_of, current_serial, end_at, pack, pack_at, pack_of_serial, writes}
+use Rattle.sv_model.specs.Supers.{IsPackOf, IsSerialOf, LiveAt, current_in, current_of, current_serial, end_at, pack, pack_at, pack_of_serial, writes}
+use Rattle.sv_model.specs.Turns.{EndsCurrent, EndsSuper, Opens, Stands}
 use Rattle.sv_rule.specs.Table.{number}
-use Rattle.sv_rule.specs.Turns.{EndsCurrent, EndsSuper, Opens, Stands}
 use Rattle.sv_rule.specs.UnderWay.{excepts}
 use Rattle.sv_rule.specs.Views.{Work, begun, idle, opens}
 use Rattle.sv_rule.proofs.Basics.{some_is, true_not}

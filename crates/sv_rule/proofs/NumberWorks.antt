@@ -6,7 +6,7 @@ use Rattle.sv_model.specs.Books.{Books}
 use Rattle.sv_model.specs.Places.{taken}
 use Rattle.sv_rule.specs.Fresh.{Past}
 use Rattle.sv_rule.specs.Numbers.{NumberOk, Numbers}
-use Rattle.sv_rule.specs.Supers.{IsPackOf, current_of}
+use Rattle.sv_model.specs.Supers.{IsPackOf, current_of}
 use Rattle.sv_rule.specs.Table.{number}
 use Rattle.sv_rule.specs.UnderWay.{excepts}
 use Rattle.sv_rule.specs.Views.{Work, begun, sweeping}

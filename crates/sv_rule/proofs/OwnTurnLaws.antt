@@ -10,9 +10,8 @@ use Rattle.sv_model.specs.declared.writes.Write.{Write}
 use Rattle.sv_model.proofs.FlatFirsts.{marks}
 use Rattle.sv_model.proofs.Lists.{same_is}
 use Rattle.sv_rule.specs.InHand.{IsThere}
-use Rattle.sv_rule.specs.Tasks.{grabs, has_output, job_count, marks_of, output_count}
-use Rattle.sv_rule.specs.Turns.{IsFresh, IsOutput, OwnTurns}
-use Rattle.sv_rule.specs.Views.{Mark, Output, Task}
+use Rattle.sv_model.specs.Tasks.{grabs, has_output, job_count, marks_of, output_count, Mark, Output, Task}
+use Rattle.sv_model.specs.Turns.{IsFresh, IsOutput, OwnTurns}
 use Rattle.sv_rule.proofs.Statuses.{registered-has, registered-stays, statuses}
 use Rattle.sv_rule.proofs.Sums.{same_one}
 

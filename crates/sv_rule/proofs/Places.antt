@@ -7,7 +7,7 @@ use Rattle.sv_model.specs.declared.records.SuperVersion.{SuperVersion}
 use Rattle.sv_model.proofs.Basics.{none_some}
 use Rattle.sv_model.proofs.Registers.{entry-new, entry-old, entry_push}
 use Rattle.sv_rule.specs.Ledger.{Counted, Places, Vacant}
-use Rattle.sv_rule.specs.Supers.{LiveAt, pack}
+use Rattle.sv_model.specs.Supers.{LiveAt, pack}
 use Rattle.sv_rule.specs.Table.{word}
 use Rattle.sv_rule.proofs.Basics.{some_is}
 

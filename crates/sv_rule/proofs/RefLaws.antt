@@ -5,7 +5,7 @@ use lib.ListN.{get_elem?}
 use Rattle.atomic_table.specs.Table.{State}
 use Rattle.sv_model.specs.Books.{Books}
 use Rattle.sv_model.specs.Lawful.{Lawful}
-use Rattle.sv_model.specs.Lists.{In, times}
+use Rattle.sv_model.specs.Lists.{In, times, at}
 use Rattle.sv_model.specs.Named.{IsLiveList, IsLiveMemtable, IsLiveVersion, numbers_of}
 use Rattle.sv_model.specs.Numbers.{IsRegistered}
 use Rattle.sv_model.specs.Registers.{entry}
@@ -18,8 +18,7 @@ use Rattle.sv_model.proofs.Registers.{entry_le}
 use Rattle.sv_rule.specs.Fits.{BodyFits}
 use Rattle.sv_rule.specs.Ledger.{Places}
 use Rattle.sv_rule.specs.LockPlays.{HasRef}
-use Rattle.sv_rule.specs.Sums.{at}
-use Rattle.sv_rule.specs.Supers.{LiveAt, pack}
+use Rattle.sv_model.specs.Supers.{LiveAt, pack}
 use Rattle.sv_rule.specs.Table.{holders, holds, names, owers, reference, slot_of}
 use Rattle.sv_rule.specs.Views.{Bodied, LaneView, SlotView, away, borrow}
 use Rattle.sv_rule.proofs.Basics.{some_is}

@@ -19,10 +19,11 @@ use Rattle.sv_rule.specs.Home.{IsDir, Lock}
 use Rattle.sv_rule.specs.InHand.{Accounts, IsQuiet, WorkHeld}
 use Rattle.sv_rule.specs.Rule.{Kept}
 use Rattle.sv_rule.specs.Sums.{Each}
+use Rattle.sv_model.specs.Tasks.{grabs, has_job, has_output, marks_of, Output, Task}
 use Rattle.sv_rule.specs.Table.{Box, cell_word, home, number, number_word, slot_home, word}
-use Rattle.sv_rule.specs.Tasks.{cell_count, due_count, due_of, dues, endings, faults, fill_count, fills, grabs, handles_of, has_cell, has_db, has_dir, has_job, has_output, holds_of, lanes, marks_of, removals, some_count}
+use Rattle.sv_rule.specs.Tasks.{cell_count, due_count, due_of, dues, endings, faults, fill_count, fills, handles_of, has_cell, has_db, has_dir, holds_of, lanes, removals, some_count}
 use Rattle.sv_rule.specs.UnderWay.{excepts, fit}
-use Rattle.sv_rule.specs.Views.{Bodied, Body, CellHeld, Desk, Disk, Joined, Known, LaneView, Output, Seat, Start, Task, Work}
+use Rattle.sv_rule.specs.Views.{Bodied, Body, CellHeld, Desk, Disk, Joined, Known, LaneView, Seat, Start, Work}
 use Rattle.sv_rule.specs.declared.parts.Stored.{Stored}
 use Rattle.sv_rule.specs.declared.parts.Stored.TheVariants as is
 use Rattle.sv_rule.proofs.Basics.{each_set, every_append}

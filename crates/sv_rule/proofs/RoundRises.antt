@@ -12,9 +12,9 @@ use Rattle.sv_model.specs.declared.records.Top.{Top}
 use Rattle.sv_rule.specs.Numbers.{Numbers}
 use Rattle.sv_rule.specs.Rounds.{Loaded, Rounds}
 use Rattle.sv_rule.specs.Sums.{below}
-use Rattle.sv_rule.specs.Supers.{current_of, has_current}
+use Rattle.sv_model.specs.Supers.{current_of, has_current}
+use Rattle.sv_model.specs.Turns.{Opens}
 use Rattle.sv_rule.specs.Tasks.{all_adds}
-use Rattle.sv_rule.specs.Turns.{Opens}
 use Rattle.sv_rule.specs.Views.{Joined, LaneView, Load, Work, begun, sweeping}
 use Rattle.sv_rule.proofs.Basics.{each_set, get-past}
 use Rattle.sv_rule.proofs.CurrentLaws.{HasTop, current_big, get_lt, has-top, has_current_le, has_current_one, pack_le, some-at}

@@ -13,10 +13,10 @@ use Rattle.sv_rule.specs.Fits.{Together}
 use Rattle.sv_rule.specs.Numbers.{Numbers}
 use Rattle.sv_rule.specs.Rounds.{Loaded, Rounds}
 use Rattle.sv_rule.specs.Sums.{below}
-use Rattle.sv_rule.specs.Supers.{IsSerialOf, current_of, has_current}
+use Rattle.sv_model.specs.Supers.{IsSerialOf, current_of, has_current}
+use Rattle.sv_model.specs.Turns.{Opens}
 use Rattle.sv_rule.specs.Table.{number}
 use Rattle.sv_rule.specs.Tasks.{all_adds}
-use Rattle.sv_rule.specs.Turns.{Opens}
 use Rattle.sv_rule.specs.UnderWay.{begins, excepts, sets, sets_on}
 use Rattle.sv_rule.specs.Views.{Joined, LaneView, Load, Work, begun, idle, opens, sweeping}
 use Rattle.sv_rule.proofs.Basics.{each_set}

@@ -9,17 +9,17 @@ use Rattle.atomic_table.specs.Table.{State}
 use Rattle.sv_model.specs.Books.{Books}
 use Rattle.sv_model.specs.Cells.{Cell}
 use Rattle.sv_model.specs.Families.{is_retired}
-use Rattle.sv_model.specs.Lists.{In, bit, times, total}
+use Rattle.sv_model.specs.Lists.{In, bit, times, total, at}
 use Rattle.sv_model.specs.declared.records.Family.{Family}
 use Rattle.sv_model.specs.declared.records.Top.{Top}
 use Rattle.sv_rule.specs.Fresh.{Past}
 use Rattle.sv_rule.specs.Home.{Seats}
 use Rattle.sv_rule.specs.InHand.{IsClosing}
 use Rattle.sv_rule.specs.Rule.{Kept}
-use Rattle.sv_rule.specs.Sums.{at}
-use Rattle.sv_rule.specs.Supers.{IsPackOf, current_of}
+use Rattle.sv_model.specs.Supers.{IsPackOf, current_of}
+use Rattle.sv_model.specs.Tasks.{handle, handle_in}
 use Rattle.sv_rule.specs.Table.{number}
-use Rattle.sv_rule.specs.Tasks.{handle, handle_in, handles_of, is_spent, joined_count, some_count}
+use Rattle.sv_rule.specs.Tasks.{handles_of, is_spent, joined_count, some_count}
 use Rattle.sv_rule.specs.UnderWay.{excepts}
 use Rattle.sv_rule.specs.Views.{Body, Desk, Disk, LaneView}
 use Rattle.sv_rule.specs.declared.parts.Stored.{Stored}

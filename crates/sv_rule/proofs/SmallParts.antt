@@ -3,7 +3,7 @@ use Rattle.sv_model.specs.declared.writes.Op.TheVariants as op
 use Rattle.std.proofs.Common.{None, Some, [], ap, arith, inl, length, refl, suc, true, zero, ℕ, ◌*◌, ◌+◌, ◌∷◌, ◌≡◌, ◌≤◌}
 use Rattle.sv_model.specs.Described.{IsFileOf}
 use Rattle.sv_model.specs.Journal.{by_lane}
-use Rattle.sv_model.specs.Lists.{Every, same, times, total}
+use Rattle.sv_model.specs.Lists.{Every, same, times, total, at}
 use Rattle.sv_model.specs.Registers.{entry}
 use Rattle.sv_model.specs.declared.records.Memtable.{Memtable}
 use Rattle.sv_rule.specs.Fits.{BodyFits, IsFrozenAt}
@@ -12,11 +12,12 @@ use Rattle.sv_rule.specs.Held.{Occupied, Says, has_rows, is_vacant}
 use Rattle.sv_rule.specs.Holding.{by_hand, by_number, by_word, holders_of}
 use Rattle.sv_rule.specs.Numbers.{NumberOk}
 use Rattle.sv_rule.specs.Rounds.{Loaded}
-use Rattle.sv_rule.specs.Sums.{at, below}
-use Rattle.sv_rule.specs.Supers.{IsPackOf, current_of, has_current}
+use Rattle.sv_rule.specs.Sums.{below}
+use Rattle.sv_model.specs.Supers.{IsPackOf, current_of, has_current}
+use Rattle.sv_model.specs.Tasks.{handle, has_job}
 use Rattle.sv_rule.specs.Sweep.{Right}
 use Rattle.sv_rule.specs.Table.{cached_at, holders, number, owers, reference, slot, slot_at, slot_of, spot, word}
-use Rattle.sv_rule.specs.Tasks.{all_adds, handle, has_db, has_dir, has_job, is_spent, joined_count, lanes}
+use Rattle.sv_rule.specs.Tasks.{all_adds, has_db, has_dir, is_spent, joined_count, lanes}
 use Rattle.sv_rule.specs.UnderWay.{Apart, Stock, fit, middle, sets}
 use Rattle.sv_rule.specs.Views.{LaneView}
 use Rattle.sv_rule.proofs.Basics.{every_cons, every_none, get_none, some_is}

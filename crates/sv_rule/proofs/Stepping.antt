@@ -7,14 +7,14 @@ use native.Mathlib.Decide.{ℕ_discrete}
 use lib.ListN.{get_elem?}
 use Rattle.atomic_table.specs.Table.{State}
 use Rattle.sv_model.specs.Books.{Books}
-use Rattle.sv_model.specs.Lists.{Every, same, total}
+use Rattle.sv_model.specs.Lists.{Every, same, total, at}
 use Rattle.sv_model.specs.Places.{taken}
 use Rattle.sv_rule.specs.Blanks.{no_locks, nobody}
 use Rattle.sv_rule.specs.Fresh.{Fresh, FreshIn, FreshOf}
 use Rattle.sv_rule.specs.Home.{Seats}
 use Rattle.sv_rule.specs.Ledger.{most_hand}
 use Rattle.sv_rule.specs.Numbers.{NumberOk, Numbers}
-use Rattle.sv_rule.specs.Sums.{Each, at, below}
+use Rattle.sv_rule.specs.Sums.{Each, below}
 use Rattle.sv_rule.specs.Sweep.{Right, Rights}
 use Rattle.sv_rule.specs.Table.{cached_at, holders, holds, names, number, number_word, slot, slot_at, slot_of, slot_word, spot, word}
 use Rattle.sv_rule.specs.Tasks.{is_spent, joined_count, lanes}

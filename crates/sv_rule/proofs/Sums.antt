@@ -4,8 +4,8 @@ use mathlib.Core.Logic.{dite}
 use mathlib.Core.Option.{some, some-injective, some-ne-none}
 use native.Mathlib.Decide.{ℕ_discrete}
 use lib.ListN.{get_elem?}
-use Rattle.sv_model.specs.Lists.{same, total}
-use Rattle.sv_rule.specs.Sums.{Put, at, below, put, without}
+use Rattle.sv_model.specs.Lists.{same, total, at}
+use Rattle.sv_rule.specs.Sums.{Put, below, put, without}
 
 pub same-self : (p : ℕ) → same p p ≡ 1
 same-self p = ap (λ b. cond b 1 0) (eq-eqb p p refl)

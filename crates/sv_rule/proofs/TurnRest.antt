@@ -25,11 +25,12 @@ use Rattle.sv_rule.specs.Home.{IsDir, Lock}
 use Rattle.sv_rule.specs.InHand.{Accounts, CurrentsStand}
 use Rattle.sv_rule.specs.Rule.{Kept}
 use Rattle.sv_rule.specs.Sums.{Each}
+use Rattle.sv_model.specs.Turns.{EndsSuper, IsNewMemtable, Turns}
+use Rattle.sv_model.specs.Tasks.{Task}
 use Rattle.sv_rule.specs.Table.{home, number, word}
 use Rattle.sv_rule.specs.Tasks.{due_count, due_of, dues, faults, fill_count, fills, has_db, has_dir, some_count}
-use Rattle.sv_rule.specs.Turns.{EndsSuper, IsNewMemtable, Turns}
 use Rattle.sv_rule.specs.UnderWay.{excepts, fit}
-use Rattle.sv_rule.specs.Views.{Bodied, Body, CellHeld, Desk, Disk, Joined, Known, LaneView, Task, Work}
+use Rattle.sv_rule.specs.Views.{Bodied, Body, CellHeld, Desk, Disk, Joined, Known, LaneView, Work}
 use Rattle.sv_rule.specs.declared.parts.Stored.{Stored}
 use Rattle.sv_rule.proofs.Basics.{append_none, each_set}
 use Rattle.sv_rule.proofs.CellLaws.{says-ended, says-new}

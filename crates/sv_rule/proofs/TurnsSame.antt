@@ -12,9 +12,10 @@ use Rattle.sv_model.proofs.AfterLaws.{after-itself}
 use Rattle.sv_model.proofs.Lists.{total_at}
 use Rattle.sv_rule.specs.InHand.{WorkHeld}
 use Rattle.sv_rule.specs.Table.{number}
-use Rattle.sv_rule.specs.Tasks.{grabs, has_job, has_output, lanes, marks_of, output_count, own_lane}
-use Rattle.sv_rule.specs.Turns.{IsAccounted, Stands, Turns}
-use Rattle.sv_rule.specs.Views.{Disk, LaneView, Mark, Start, Work}
+use Rattle.sv_rule.specs.Tasks.{lanes, own_lane}
+use Rattle.sv_model.specs.Tasks.{grabs, has_job, has_output, marks_of, output_count, Mark}
+use Rattle.sv_model.specs.Turns.{IsAccounted, Stands, Turns}
+use Rattle.sv_rule.specs.Views.{Disk, LaneView, Start, Work}
 use Rattle.sv_rule.proofs.Basics.{append_none, get_none}
 use Rattle.sv_rule.proofs.Stepping.{view_le}
 use Rattle.sv_rule.proofs.Sums.{cond-else, cond-is, same_one, terms_le, total-one}

@@ -12,9 +12,9 @@ use Rattle.sv_model.specs.Openings.{IsOpening}
 use Rattle.sv_model.specs.Registers.{EachEntry}
 use Rattle.sv_rule.specs.declared.parts.Stored.{Stored}
 use Rattle.sv_rule.specs.declared.parts.Stored.TheVariants as is
-use Rattle.sv_rule.specs.Supers.{pack}
+use Rattle.sv_model.specs.Supers.{pack}
+use Rattle.sv_model.specs.Tasks.{handle}
 use Rattle.sv_rule.specs.Table.{cell_word, number_word, reference_word, slot_home}
-use Rattle.sv_rule.specs.Tasks.{handle}
 use Rattle.sv_rule.specs.Views.{Disk}
 
 -- The words: family f, of so many, has SuperVersion f + 1, which lies at place f and has one holder.

@@ -2,7 +2,8 @@
 use Rattle.std.specs.Prelude.{ℕ, true, false, List, [], ◌∷◌, None, Some}
 use Rattle.sv_model.specs.Books.{Books}
 use Rattle.sv_model.specs.Families.{first_options}
-use Rattle.sv_rule.specs.Views.{Bodied, Disk, Start, Task, Known, Work, Desk, Locks, Slots, Counts, Seat, LaneView, idle, sweeping}
+use Rattle.sv_rule.specs.Views.{Bodied, Disk, Start, Known, Work, Desk, Locks, Slots, Counts, Seat, LaneView, idle, sweeping}
+use Rattle.sv_model.specs.Tasks.{Task}
 
 abbrev pub no_books : Books
 no_books = record {

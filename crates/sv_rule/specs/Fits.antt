@@ -9,7 +9,7 @@ use Rattle.sv_model.specs.declared.records.Snapshot.{Snapshot}
 use Rattle.sv_model.specs.declared.records.FileStatus.TheVariants.{Gone}
 use Rattle.sv_model.specs.Journal.{of_family, borne_by, by_lane, rows_of}
 use Rattle.sv_model.specs.Registers.{entry, Has}
-use Rattle.sv_model.specs.Lists.{In, Every}
+use Rattle.sv_model.specs.Lists.{In, Every, at}
 use Rattle.sv_model.specs.Reads.{IsCapturedFor}
 use Rattle.sv_model.specs.Numbers.{IsRegistered}
 use Rattle.sv_model.specs.HeldFiles.{IsFileText}
@@ -18,8 +18,7 @@ use Rattle.sv_model.specs.Described.{Describes}
 use Rattle.sv_model.specs.Lawful.{Lawful}
 use Rattle.sv_model.specs.Cells.{Cell}
 use Rattle.sv_model.specs.Books.{Books}
-use Rattle.sv_rule.specs.Sums.{at}
-use Rattle.sv_rule.specs.Supers.{IsPackOf, IsSerialOf, pack}
+use Rattle.sv_model.specs.Supers.{IsPackOf, IsSerialOf, pack}
 use Rattle.sv_rule.specs.Views.{Known, Bodied, FrozenAt, RowsRead, FileRead, Load}
 
 -- the memtable with its rows

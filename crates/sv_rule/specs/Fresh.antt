@@ -1,9 +1,10 @@
 -- What a lane borrowed, cached or looked at is no newer than the number word, and shows what the lane saw.
 use Rattle.std.specs.Prelude.{◌≡◌, ◌≢◌, ℕ, ◌/◌, ◌<◌, ◌≤◌, List}
 use Rattle.sv_model.specs.Books.{Books}
-use Rattle.sv_rule.specs.Supers.{IsPackOf, current_of, writes, end_at}
+use Rattle.sv_model.specs.Supers.{IsPackOf, current_of, writes, end_at}
+use Rattle.sv_model.specs.Lists.{at}
 use Rattle.sv_rule.specs.Views.{LaneView, SlotView, away, held, borrow}
-use Rattle.sv_rule.specs.Sums.{Each, at}
+use Rattle.sv_rule.specs.Sums.{Each}
 use Rattle.sv_rule.specs.Table.{slot_of}
 use Rattle.sv_rule.specs.Sweep.{pack_of}
 

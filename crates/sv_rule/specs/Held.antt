@@ -16,8 +16,9 @@ use Rattle.sv_model.specs.Registers.{entry}
 use Rattle.sv_rule.specs.declared.parts.Stored.{Stored}
 use Rattle.sv_rule.specs.declared.parts.Stored.TheVariants as is
 use Rattle.sv_rule.specs.Sums.{Each}
-use Rattle.sv_rule.specs.Views.{LaneView, CellHeld, Disk, Output, Body}
-use Rattle.sv_rule.specs.Tasks.{dues, fills, has_cell, marks_of}
+use Rattle.sv_model.specs.Tasks.{Output, marks_of}
+use Rattle.sv_rule.specs.Views.{LaneView, CellHeld, Disk, Body}
+use Rattle.sv_rule.specs.Tasks.{dues, fills, has_cell}
 use Rattle.sv_rule.specs.Fits.{cell_of, BodyFits}
 use Rattle.sv_rule.specs.Table.{word, home, cell_word, slot_home}
 use Rattle.sv_rule.specs.Home.{Lock}

@@ -10,12 +10,13 @@ use Rattle.sv_model.specs.Families.{is_retired}
 use Rattle.sv_model.specs.Numbers.{having, is_pending, is_live, is_grabbed}
 use Rattle.sv_model.specs.Summaries.{is_obsolete, is_gone}
 use Rattle.sv_model.specs.Books.{Books}
-use Rattle.sv_model.specs.Lists.{In, Every, total, times}
-use Rattle.sv_rule.specs.Sums.{Each, at}
+use Rattle.sv_model.specs.Lists.{In, Every, total, times, at}
+use Rattle.sv_rule.specs.Sums.{Each}
+use Rattle.sv_model.specs.Tasks.{Task, Output, has_output, grabs, has_job, handle, gone_snapshot}
 use Rattle.sv_rule.specs.Fits.{Fits}
 use Rattle.sv_rule.specs.UnderWay.{excepts}
-use Rattle.sv_rule.specs.Views.{Known, LaneView, Task, Output, Start, Disk, Work}
-use Rattle.sv_rule.specs.Tasks.{has_output, grabs, has_job, has_db, removals, endings, faults, lanes, holds_of, handles_of, handle, gone_snapshot}
+use Rattle.sv_rule.specs.Views.{Known, LaneView, Start, Disk, Work}
+use Rattle.sv_rule.specs.Tasks.{has_db, removals, endings, faults, lanes, holds_of, handles_of}
 
 -- Live or Obsolete
 abbrev pub IsThere : Books → ℕ → Type 0

@@ -2,7 +2,7 @@
 use Rattle.std.specs.Prelude.{◌≡◌, ◌≢◌, ◌⊎◌, ℕ, ◌+◌, ◌*◌, ◌<◌, ◌≤◌, List, length}
 use Rattle.sv_model.specs.declared.records.SuperVersion.{SuperVersion}
 use Rattle.sv_rule.specs.Sums.{Each}
-use Rattle.sv_rule.specs.Supers.{LiveAt, pack}
+use Rattle.sv_model.specs.Supers.{LiveAt, pack}
 use Rattle.sv_rule.specs.Views.{LaneView}
 
 -- No SuperVersion is Live at place k, and its word w is 0. By h a pack's holders are counted, by o the views that owe

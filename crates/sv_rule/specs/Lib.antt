@@ -1,5 +1,4 @@
 pub mod Sums
-pub mod Supers
 pub mod Views
 pub mod Codes
 pub mod Blanks
@@ -15,7 +14,6 @@ pub mod Fresh
 pub mod Fits
 pub mod Held
 pub mod InHand
-pub mod Turns
 pub mod Rule
 pub mod ReferencePlays
 pub mod SlotPlays

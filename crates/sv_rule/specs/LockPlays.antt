@@ -10,17 +10,18 @@ use Rattle.sv_model.specs.Books.{Books}
 use Rattle.sv_model.specs.Cells.{Cell}
 use Rattle.sv_model.specs.Files.{Files, file_name, file_of, with_file}
 use Rattle.sv_model.specs.HeldFiles.{HasItsText}
-use Rattle.sv_model.specs.Lists.{In, Every, times}
+use Rattle.sv_model.specs.Lists.{In, Every, times, at}
 use Rattle.sv_rule.specs.declared.parts.Stored.{Stored}
 use Rattle.sv_rule.specs.declared.parts.Stored.TheVariants as is
-use Rattle.sv_rule.specs.Sums.{at, put}
-use Rattle.sv_rule.specs.Supers.{LiveAt, current_of}
-use Rattle.sv_rule.specs.Views.{LaneView, Desk, Disk, Task, Output, Mark, Bodied, FrozenAt, RowsRead, FileRead, Work, idle, borrow}
-use Rattle.sv_rule.specs.Tasks.{marks_of, has_output, grabs, has_job}
+use Rattle.sv_rule.specs.Sums.{put}
+use Rattle.sv_model.specs.Supers.{LiveAt, current_of}
+use Rattle.sv_model.specs.Tasks.{Task, Output, Mark, marks_of, has_output, grabs, has_job}
+use Rattle.sv_model.specs.Turns.{Turns, Stands, IsOutput, IsAccounted}
+use Rattle.sv_rule.specs.Views.{LaneView, Desk, Disk, Bodied, FrozenAt, RowsRead, FileRead, Work, idle, borrow}
 use Rattle.sv_rule.specs.Fits.{Fits}
 use Rattle.sv_rule.specs.Held.{CellSays, Occupied, Told}
-use Rattle.sv_rule.specs.Turns.{Turns, Stands, IsOutput, IsAccounted}
 use Rattle.sv_rule.specs.Table.{cell_word, slot_of}
+use Rattle.sv_model.specs.declared.limits.TheConstants.{MAX_WRITES}
 
 -- ---- the DB lock
 
@@ -178,7 +179,7 @@ pub record FindsAsBody (v : LaneView) (c : ℕ) (x : Option Cell) : Type 0 where
       → HasMem x k.frozen.id
   pub floor : (b : Bodied) (f floor : ℕ) (k : Cell) → In b v.known.bodies → f < 16 → slot_of v f ≡ borrow b.pack floor
       → b.body.cell ≡ c → x ≡ Some k
-      → (floor ≤ b.body.descriptor.base + length k.rows) × (b.body.descriptor.base + length k.rows ≤ 262144)
+      → (floor ≤ b.body.descriptor.base + length k.rows) × (b.body.descriptor.base + length k.rows ≤ MAX_WRITES)
 
 module _ {S D C B : Type 0} (cell : C → Option Cell) where
   pub record TookCell (c : ℕ) (m : Me (Stored S D C B) LaneView) (r : ℕ) (n : Me (Stored S D C B) LaneView) : Type

@@ -5,7 +5,7 @@ use Rattle.sv_model.specs.Lawful.{Lawful}
 use Rattle.sv_model.specs.Registers.{EachEntry, entry}
 use Rattle.sv_model.specs.declared.records.Memtable.{Memtable}
 use Rattle.sv_model.specs.declared.records.SuperVersion.{SuperVersion}
-use Rattle.sv_rule.specs.Supers.{IsPackOf, IsSerialOf, current_of, end_at, writes}
+use Rattle.sv_model.specs.Supers.{IsPackOf, IsSerialOf, current_of, end_at, writes}
 use Rattle.sv_rule.specs.UnderWay.{excepts}
 use Rattle.sv_rule.specs.Views.{Work}
 

@@ -9,11 +9,12 @@ use Rattle.sv_model.specs.declared.records.Memtable.{Memtable}
 use Rattle.sv_rule.specs.Fits.{BodyFits}
 use Rattle.sv_rule.specs.Ledger.{most_hand}
 use Rattle.sv_rule.specs.Sums.{without}
-use Rattle.sv_rule.specs.Supers.{current_of}
+use Rattle.sv_model.specs.Supers.{current_of}
+use Rattle.sv_model.specs.Turns.{EndsSuper, IsNewMemtable, Opens, Turns}
+use Rattle.sv_model.specs.Tasks.{Task}
 use Rattle.sv_rule.specs.Table.{holds}
 use Rattle.sv_rule.specs.Tasks.{lanes}
-use Rattle.sv_rule.specs.Turns.{EndsSuper, IsNewMemtable, Opens, Turns}
-use Rattle.sv_rule.specs.Views.{Bodied, Desk, LaneView, Task, Work, begun, idle, opens, sweeping}
+use Rattle.sv_rule.specs.Views.{Bodied, Desk, LaneView, Work, begun, idle, opens, sweeping}
 
 -- the lane came to know bodies
 abbrev pub learnt : List Bodied → LaneView → LaneView

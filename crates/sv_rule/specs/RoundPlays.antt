@@ -10,9 +10,10 @@ use Rattle.sv_rule.specs.Ledger.{most_hand}
 use Rattle.sv_rule.specs.Numbers.{NumberOk}
 use Rattle.sv_rule.specs.SlotPlays.{reached}
 use Rattle.sv_rule.specs.Sums.{put, without}
-use Rattle.sv_rule.specs.Supers.{current_of}
-use Rattle.sv_rule.specs.Turns.{EndsCurrent, Turns}
-use Rattle.sv_rule.specs.Views.{Bodied, Desk, LaneView, Task, begun, idle, sweeping}
+use Rattle.sv_model.specs.Supers.{current_of}
+use Rattle.sv_model.specs.Turns.{EndsCurrent, Turns}
+use Rattle.sv_model.specs.Tasks.{Task}
+use Rattle.sv_rule.specs.Views.{Bodied, Desk, LaneView, begun, idle, sweeping}
 
 -- ---- kind 7, round load
 

@@ -4,7 +4,7 @@ use Rattle.std.specs.Prelude.{◌≡◌, ◌≢◌, ◌⊎◌, ℕ, ◌+◌, ◌
 use Rattle.sv_model.specs.Lists.{total, Every}
 use Rattle.sv_model.specs.Books.{Books}
 use Rattle.sv_rule.specs.Sums.{below, Each}
-use Rattle.sv_rule.specs.Supers.{IsPackOf, IsSerialOf, current_of, has_current}
+use Rattle.sv_model.specs.Supers.{IsPackOf, IsSerialOf, current_of, has_current}
 use Rattle.sv_rule.specs.Tasks.{all_adds}
 use Rattle.sv_rule.specs.Views.{LaneView, Load, Work}
 use Rattle.sv_rule.specs.UnderWay.{sets, sets_on, begins}

@@ -1,6 +1,6 @@
 -- What the making and the joining of a seat make of views, and what they need.
 use Rattle.std.specs.Prelude.{◌≡◌, ℕ, ◌+◌, ◌<◌, false, [], ◌∷◌, ◌++◌, None, length}
-use Rattle.sv_rule.specs.Sums.{at}
+use Rattle.sv_model.specs.Lists.{at}
 use Rattle.sv_rule.specs.Table.{slot_of}
 use Rattle.sv_rule.specs.Views.{LaneView, Joined, away}
 use Rattle.sv_rule.specs.Blanks.{new_view, no_locks}

@@ -2,11 +2,11 @@
 use Rattle.std.specs.Prelude.{◌≡◌, ◌≢◌, ◌⊎◌, ℕ, zero, suc, ◌+◌, ◌<◌, ◌≤◌, ◌==◌, nat_le, Bool, true, false, cond, List, [], ◌∷◌, Option, Some, None}
 use Rattle.atomic_table.specs.Table.{Me, rest}
 use Rattle.sv_model.specs.declared.sv_refs.SvRef.{SvRef}
-use Rattle.sv_model.specs.Lists.{In, total, same, times}
+use Rattle.sv_model.specs.Lists.{In, total, same, times, at}
 use Rattle.sv_rule.specs.declared.parts.Stored.{Stored}
 use Rattle.sv_rule.specs.declared.parts.Stored.TheVariants as is
-use Rattle.sv_rule.specs.Sums.{at, put, without}
-use Rattle.sv_rule.specs.Supers.{current_of}
+use Rattle.sv_rule.specs.Sums.{put, without}
+use Rattle.sv_model.specs.Supers.{current_of}
 use Rattle.sv_rule.specs.Views.{LaneView, Desk, SlotView, Body, away, held, borrow, idle, opens, begun, sweeping}
 use Rattle.sv_rule.specs.Table.{slot_home, spot, slot_of}
 use Rattle.sv_rule.specs.ReferencePlays.{learnt}

@@ -8,12 +8,6 @@ unfoldable pub below : (ℕ → ℕ) → ℕ → ℕ
 below f zero = 0
 below f (suc n) = below f n + f n
 
--- a list has d wherever nothing was put
-abbrev pub at : {A : Type 0} → A → List A → ℕ → A
-at d [] i = d
-at d (x ∷ xs) zero = x
-at d (x ∷ xs) (suc i) = at d xs i
-
 abbrev pub put : {A : Type 0} → A → List A → ℕ → A → List A
 put d [] zero a = a ∷ []
 put d [] (suc i) a = d ∷ put d [] i a

@@ -3,10 +3,10 @@ use Rattle.std.specs.Prelude.{ℕ, ◌+◌, ◌*◌, slice_index, List}
 use lib.ListN.{get_elem?}
 use mathlib.Core.Option as maybe
 use Rattle.atomic_table.specs.Table.{State}
-use Rattle.sv_model.specs.Lists.{total, same}
+use Rattle.sv_model.specs.Lists.{total, same, at}
 use Rattle.sv_rule.specs.Views.{LaneView, SlotView, away, held, borrow}
 use Rattle.sv_rule.specs.Blanks.{nobody}
-use Rattle.sv_rule.specs.Sums.{below, at}
+use Rattle.sv_rule.specs.Sums.{below}
 
 -- ---- the 851 words and the 578 slots
 

@@ -2,35 +2,10 @@
 use Rattle.std.specs.Prelude.{◌==◌, ◌+◌, ℕ, Bool, cond, List, [], Option, None, Some, slice_get, option_map, map, length}
 use Rattle.sv_model.specs.declared.records.Family.{Family}
 use Rattle.sv_model.specs.declared.records.Snapshot.{Snapshot}
-use Rattle.sv_model.specs.Lists.{total, same, times, bit}
+use Rattle.sv_model.specs.Lists.{total, same, times, bit, at}
 use Rattle.sv_model.specs.Registers.{entry}
-use Rattle.sv_rule.specs.Sums.{at}
-use Rattle.sv_rule.specs.Views.{Task, Output, Mark, CellHeld, Known, LaneView}
-
--- ---- of a task
-
-abbrev pub output_count : ℕ → Option Output → ℕ
-output_count n None = 0
-output_count n (Some o) = same n o.meta.number
-
--- how often the number is the output
-abbrev pub has_output : ℕ → Task → ℕ
-has_output n t = output_count n t.output
-
-abbrev pub marks_of : Option (List Mark) → List Mark
-marks_of None = []
-marks_of (Some marks) = marks
-
-abbrev pub job_count : Option (List Mark) → ℕ
-job_count None = 0
-job_count (Some marks) = 1
-
-abbrev pub has_job : Task → ℕ
-has_job t = job_count t.job
-
--- how often the number is in the job
-abbrev pub grabs : ℕ → Task → ℕ
-grabs n t = total (λ k. same n k.number) (marks_of t.job)
+use Rattle.sv_model.specs.Tasks.{Task, Output, Mark}
+use Rattle.sv_rule.specs.Views.{CellHeld, Known, LaneView}
 
 -- ---- of a view, and of those joined into it
 
@@ -65,24 +40,6 @@ is_spent v = cond v.seat.spent 1 0
 
 abbrev pub joined_count : LaneView → ℕ
 joined_count v = length v.joined
-
--- ---- of the books
-
-abbrev pub handle_in : ℕ → Option Family → ℕ
-handle_in l None = 0
-handle_in l (Some f) = at 0 (map bit f.handles) l
-
--- 1 where the lane has a handle of the family
-abbrev pub handle : List Family → ℕ → ℕ → ℕ
-handle families l f = handle_in l (slice_get families f)
-
-abbrev pub gone_count : Option Snapshot → ℕ
-gone_count None = 0
-gone_count (Some s) = cond s.live 0 1
-
--- 1 where the snapshot was made and is Gone
-abbrev pub gone_snapshot : ℕ → List Snapshot → ℕ
-gone_snapshot n snapshots = gone_count (entry snapshots n)
 
 -- ---- locks
 

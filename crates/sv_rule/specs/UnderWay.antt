@@ -2,7 +2,7 @@
 use Rattle.std.specs.Prelude.{◌≢◌, ℕ, ◌==◌, cond, nat_le, ◌<◌, ◌≤◌, true, List}
 use Rattle.sv_model.specs.Lists.{total, same}
 use Rattle.sv_model.specs.Books.{Books}
-use Rattle.sv_rule.specs.Supers.{current_of}
+use Rattle.sv_model.specs.Supers.{current_of}
 use Rattle.sv_rule.specs.Views.{Work, idle, opens, begun, sweeping}
 use Rattle.sv_rule.specs.Table.{spot}
 

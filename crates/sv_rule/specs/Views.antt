@@ -7,6 +7,7 @@ use Rattle.sv_model.specs.declared.records.FileMeta.{FileMeta}
 use Rattle.sv_model.specs.Books.{Books}
 use Rattle.sv_model.specs.Cells.{Cell}
 use Rattle.sv_model.specs.Files.{Files}
+use Rattle.sv_model.specs.Tasks.{Task}
 
 -- a directory: its files, where it tells them, and its count of faults
 pub record Disk : Type 0 where
@@ -17,32 +18,6 @@ pub record Disk : Type 0 where
 pub record Start : Type 0 where
   pub disk : Disk
   pub books : Books
-
--- ---- what the books have of a lane's own
-
--- a captured number with what its file is to cover, and whether the file was written
-pub record Output : Type 0 where
-  pub meta : FileMeta
-  pub written : Bool
-
--- a number that was grabbed, and whether its file was taken away
-pub record Mark : Type 0 where
-  pub number : ℕ
-  pub taken : Bool
-
-pub record Task : Type 0 where
-  -- the families of which the lane has a handle
-  pub handles : List ℕ
-  pub holds : ℕ
-  -- whether its hold has answered, and the numbers listed since
-  pub quiet : Bool
-  pub listed : List ℕ
-  pub output : Option Output
-  -- the numbers grabbed and not given back
-  pub job : Option (List Mark)
-  -- the numbers that it made Gone, and the snapshots
-  pub removed : List ℕ
-  pub ended : List ℕ
 
 -- ---- what a lane was handed, and what it read
 

@@ -3,7 +3,8 @@ ghost use Rattle.std.specs.Prelude.{ℕ, List, []};
 ghost use Rattle.sv_model.specs.declared.writes.Write.{Write};
 ghost use Rattle.sv_model.specs.Books.{Books};
 ghost use Rattle.sv_rule.specs.Blanks.{bare_task, no_bodied, no_books, no_desk};
-ghost use Rattle.sv_rule.specs.Views.{Bodied, Desk, FileRead, Task};
+ghost use Rattle.sv_rule.specs.Views.{Bodied, Desk, FileRead};
+ghost use Rattle.sv_model.specs.Tasks.{Task};
 
 use std::marker::Brand;
 

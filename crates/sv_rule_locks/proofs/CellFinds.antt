@@ -5,15 +5,14 @@ use lib.ListN.{get_elem?}
 use Rattle.sv_model.specs.Books.{Books}
 use Rattle.sv_model.specs.Cells.{Cell}
 use Rattle.sv_model.specs.Lawful.{Lawful}
-use Rattle.sv_model.specs.Lists.{Every, In, bit, times, total}
+use Rattle.sv_model.specs.Lists.{Every, In, bit, times, total, at}
 use Rattle.sv_model.specs.declared.records.Memtable.{Memtable}
 use Rattle.sv_model.proofs.FlatKeys.{gone}
 use Rattle.sv_rule.specs.Fits.{BodyFits, cell_of}
 use Rattle.sv_rule.specs.Fresh.{floor_of}
 use Rattle.sv_rule.specs.Held.{CellSays, Occupied, Says, fills_up, has_rows, is_due, is_vacant}
 use Rattle.sv_rule.specs.LockPlays.{FindsAsBody, FindsAsBooks, HasMem, HasRef}
-use Rattle.sv_rule.specs.Sums.{at}
-use Rattle.sv_rule.specs.Supers.{LiveAt, end_at}
+use Rattle.sv_model.specs.Supers.{LiveAt, end_at}
 use Rattle.sv_rule.specs.Sweep.{pack_of}
 use Rattle.sv_rule.specs.Table.{slot_of}
 use Rattle.sv_rule.specs.Tasks.{dues, fills, has_db}

@@ -17,7 +17,7 @@ use Rattle.sv_rule.specs.InHand.{Accounts}
 use Rattle.sv_rule.specs.Rule.{Kept}
 use Rattle.sv_rule.specs.Table.{Box, cell_word, home, number, number_word, slot_home, word}
 use Rattle.sv_rule.specs.Tasks.{faults, has_cell, has_db, has_dir, some_count}
-use Rattle.sv_rule.specs.Turns.{Stands, Turns}
+use Rattle.sv_model.specs.Turns.{Stands, Turns}
 use Rattle.sv_rule.specs.Views.{Body, CellHeld, Disk, Joined, LaneView, Seat, idle}
 use Rattle.sv_rule.specs.declared.parts.Stored.{Stored}
 use Rattle.sv_rule.proofs.Assembly.{Desks}

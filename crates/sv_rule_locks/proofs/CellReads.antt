@@ -10,7 +10,7 @@ use Rattle.sv_model.specs.Cells.{Cell}
 use Rattle.sv_model.specs.Described.{BearsFrom}
 use Rattle.sv_model.specs.Journal.{borne_by, of_family, row_of, rows_of}
 use Rattle.sv_model.specs.Lawful.{Lawful}
-use Rattle.sv_model.specs.Lists.{Every}
+use Rattle.sv_model.specs.Lists.{Every, at}
 use Rattle.sv_model.specs.Registers.{entry}
 use Rattle.sv_model.specs.declared.records.Memtable.{Memtable}
 use Rattle.sv_model.specs.declared.writes.Write.{Write}
@@ -21,13 +21,13 @@ use Rattle.sv_model.proofs.SearchLaws.{found}
 use Rattle.sv_rule.specs.Fits.{BodyFits, Fits, IsClosed, RowsFit, cell_of}
 use Rattle.sv_rule.specs.Held.{CellSays, fills_up, has_rows, is_due, is_vacant}
 use Rattle.sv_rule.specs.LockPlays.{IsActiveCut, IsCut, closes, raised, read_of}
-use Rattle.sv_rule.specs.Sums.{at}
-use Rattle.sv_rule.specs.Supers.{end_at, end_in}
+use Rattle.sv_model.specs.Supers.{end_at, end_in}
 use Rattle.sv_rule.specs.UnderWay.{fit}
 use Rattle.sv_rule.specs.Views.{Bodied, Desk, FrozenAt, LaneView, RowsRead}
 use Rattle.sv_rule.proofs.Basics.{append_none, every_push, some_is}
 use Rattle.sv_rule.proofs.LaterBooks.{get-map}
 use Rattle.sv_rule.proofs.Sums.{at-put_else, at-put_same}
+use Rattle.sv_model.proofs.Basics.{none_some}
 
 -- ---- what is raised
 
@@ -126,10 +126,7 @@ says-rows memtables journal due fill c x cell z e (has_rows o q) =
       subst (λ k. k.rows ≡ rows_of (borne_by k.id journal)) same refl,
     )
 says-rows memtables journal due fill c x cell z e (fills_up o q f) = absurd (omega arith)
-says-rows memtables journal due fill c x cell z e (is_vacant f q) = absurd (no_some cell (sym q ∙ e))
-  where
-    no_some : (k : Cell) → None ≡ Some k → ⊥
-    no_some k e = cc
+says-rows memtables journal due fill c x cell z e (is_vacant f q) = absurd (none_some cell (sym q ∙ e))
 says-rows memtables journal due fill c x cell z e (is_due f d m it at gone q) =
     let same : cell_of journal m ≡ cell = some_is (sym q ∙ e) in (
       it,

@@ -20,8 +20,9 @@ use Rattle.sv_rule.specs.LockPlays.{IsOneWrite, MayWriteCell, WroteCell, without
 use Rattle.sv_rule.specs.Rule.{Kept}
 use Rattle.sv_rule.specs.Table.{Box, cell_word, home, number, word}
 use Rattle.sv_rule.specs.Tasks.{dues, fills, has_cell, has_db}
-use Rattle.sv_rule.specs.Turns.{Stands, Turns}
-use Rattle.sv_rule.specs.Views.{Body, Desk, Disk, LaneView, Task}
+use Rattle.sv_model.specs.Turns.{Stands, Turns}
+use Rattle.sv_model.specs.Tasks.{Task}
+use Rattle.sv_rule.specs.Views.{Body, Desk, Disk, LaneView}
 use Rattle.sv_rule.specs.declared.parts.Stored.{Stored}
 use Rattle.sv_rule.specs.declared.parts.Stored.TheVariants as is
 use Rattle.sv_rule.proofs.Basics.{append_none, has_one, true_not}

@@ -16,11 +16,11 @@ use Rattle.sv_rule.specs.InHand.{Accounts}
 use Rattle.sv_rule.specs.Ledger.{Places}
 use Rattle.sv_rule.specs.Numbers.{Numbers}
 use Rattle.sv_rule.specs.Rule.{Kept}
-use Rattle.sv_rule.specs.Supers.{IsSerialOf, current_of}
+use Rattle.sv_model.specs.Supers.{IsSerialOf, current_of}
+use Rattle.sv_model.specs.Turns.{Stands, Turns}
 use Rattle.sv_rule.specs.Sweep.{Rights}
 use Rattle.sv_rule.specs.Table.{Box, cell_word, holders, holds, home, names, number, number_word, owers, owes, reference, reference_word, slot, slot_home, slot_word, word}
 use Rattle.sv_rule.specs.Tasks.{dues, faults, fills, has_db, has_dir, some_count}
-use Rattle.sv_rule.specs.Turns.{Stands, Turns}
 use Rattle.sv_rule.specs.UnderWay.{Stock, begins, sets, sets_on}
 use Rattle.sv_rule.specs.Views.{Body, Desk, Disk, Joined, LaneView, Seat, SlotView, Work, idle}
 use Rattle.sv_rule.specs.declared.parts.Stored.{Stored}

@@ -15,8 +15,9 @@ use Rattle.sv_rule.specs.LockPlays.{GaveDb, IsTold, MayGiveDb, TookDb, gave_db, 
 use Rattle.sv_rule.specs.Rule.{Kept}
 use Rattle.sv_rule.specs.Table.{Box, home, number, word}
 use Rattle.sv_rule.specs.Tasks.{due_count, dues, fill_count, fills, has_db}
-use Rattle.sv_rule.specs.Turns.{Stands, Turns}
-use Rattle.sv_rule.specs.Views.{Body, Desk, Disk, LaneView, Task, idle}
+use Rattle.sv_model.specs.Turns.{Stands, Turns}
+use Rattle.sv_model.specs.Tasks.{Task}
+use Rattle.sv_rule.specs.Views.{Body, Desk, Disk, LaneView, idle}
 use Rattle.sv_rule.specs.declared.parts.Stored.{Stored}
 use Rattle.sv_rule.specs.declared.parts.Stored.TheVariants as is
 use Rattle.sv_rule.proofs.Basics.{each_other, each_set, every_map, every_push, has_one, no_db, some_is}

@@ -24,10 +24,10 @@ use Rattle.sv_rule.specs.Fits.{BodyFits, Fits, ReadFits}
 use Rattle.sv_rule.specs.Held.{FilesHeld}
 use Rattle.sv_rule.specs.InHand.{IsThere, WorkHeld}
 use Rattle.sv_rule.specs.LockPlays.{ChangesOwn, DirChange, HasRef, IsOwnRead, MarksTask}
-use Rattle.sv_rule.specs.Supers.{LiveAt}
+use Rattle.sv_model.specs.Supers.{LiveAt}
+use Rattle.sv_model.specs.Tasks.{grabs, has_output, marks_of, output_count, Mark, Output, Task}
 use Rattle.sv_rule.specs.Table.{number}
-use Rattle.sv_rule.specs.Tasks.{grabs, has_output, marks_of, output_count}
-use Rattle.sv_rule.specs.Views.{Disk, FileRead, LaneView, Mark, Output, Start, Task, Work}
+use Rattle.sv_rule.specs.Views.{Disk, FileRead, LaneView, Start, Work}
 use Rattle.sv_rule.proofs.Basics.{each_other, get_none, some_is}
 use Rattle.sv_rule_locks.proofs.FileNames.{file-else, file-here, get-with_file, name_apart}
 use Rattle.sv_rule.proofs.FileTurns.{absent-gone, gone-absent}

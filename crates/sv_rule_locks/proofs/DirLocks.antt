@@ -21,10 +21,11 @@ use Rattle.sv_rule.specs.InHand.{Accounts, WorkHeld}
 use Rattle.sv_rule.specs.LockPlays.{DirChange, GaveDir, MarksTask, MayGiveDir, TookDir, gave_dir, took_dir}
 use Rattle.sv_rule.specs.Rule.{Kept}
 use Rattle.sv_rule.specs.Sums.{Each}
+use Rattle.sv_model.specs.Turns.{OwnTurns}
+use Rattle.sv_model.specs.Tasks.{Task}
 use Rattle.sv_rule.specs.Table.{Box, cell_word, home, names, number, number_word, slot_home, word}
 use Rattle.sv_rule.specs.Tasks.{due_count, due_of, faults, fill_count, fills, has_dir, some_count}
-use Rattle.sv_rule.specs.Turns.{OwnTurns}
-use Rattle.sv_rule.specs.Views.{Body, Desk, Disk, FileRead, LaneView, Seat, Start, Task, Work}
+use Rattle.sv_rule.specs.Views.{Body, Desk, Disk, FileRead, LaneView, Seat, Start, Work}
 use Rattle.sv_rule.specs.declared.parts.Stored.{Stored}
 use Rattle.sv_rule.specs.declared.parts.Stored.TheVariants as is
 use Rattle.sv_rule.proofs.Basics.{each_other, each_set, every_append, some_is}

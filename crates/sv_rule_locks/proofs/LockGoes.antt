@@ -8,7 +8,7 @@ use Rattle.sv_model.specs.After.{After}
 use Rattle.sv_model.specs.Books.{Books}
 use Rattle.sv_model.specs.Cells.{Cell}
 use Rattle.sv_model.specs.Lawful.{Lawful}
-use Rattle.sv_model.specs.Lists.{same, total}
+use Rattle.sv_model.specs.Lists.{same, total, at}
 use Rattle.sv_model.specs.declared.records.SuperVersion.{SuperVersion}
 use Rattle.sv_rule.specs.Fresh.{FreshIn, FreshOf}
 use Rattle.sv_rule.specs.Held.{Held}
@@ -16,11 +16,11 @@ use Rattle.sv_rule.specs.Home.{IsDir, IsState, Lock, SlotOk}
 use Rattle.sv_rule.specs.InHand.{WorkHeld}
 use Rattle.sv_rule.specs.Ledger.{Places}
 use Rattle.sv_rule.specs.Rule.{Kept}
-use Rattle.sv_rule.specs.Sums.{Each, at}
-use Rattle.sv_rule.specs.Supers.{IsSerialOf, current_of, writes}
+use Rattle.sv_rule.specs.Sums.{Each}
+use Rattle.sv_model.specs.Supers.{IsSerialOf, current_of, writes}
+use Rattle.sv_model.specs.Turns.{Stands}
 use Rattle.sv_rule.specs.Table.{Box, holders, holds, home, names, number, number_word, owers, owes, reference, reference_word, slot, slot_home, slot_of, slot_word, word}
 use Rattle.sv_rule.specs.Tasks.{has_db, has_dir, some_count}
-use Rattle.sv_rule.specs.Turns.{Stands}
 use Rattle.sv_rule.specs.UnderWay.{Stock}
 use Rattle.sv_rule.specs.Views.{Body, Desk, Disk, LaneView, Slots, Work, away, idle}
 use Rattle.sv_rule.specs.declared.parts.Stored.{Stored}

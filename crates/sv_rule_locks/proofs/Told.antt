@@ -12,7 +12,7 @@ use Rattle.sv_model.proofs.Lists.{times_in}
 use Rattle.sv_rule.specs.Ledger.{Counted, Vacant}
 use Rattle.sv_rule.specs.LockPlays.{IsTold}
 use Rattle.sv_rule.specs.Rule.{Kept}
-use Rattle.sv_rule.specs.Supers.{LiveAt, pack}
+use Rattle.sv_model.specs.Supers.{LiveAt, pack}
 use Rattle.sv_rule.specs.Table.{holders, number, owers, owes, reference}
 use Rattle.sv_rule.specs.UnderWay.{excepts}
 use Rattle.sv_rule.specs.Views.{Body, Disk, LaneView, idle}

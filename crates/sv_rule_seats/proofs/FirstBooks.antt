@@ -12,7 +12,7 @@ use Rattle.sv_model.specs.declared.records.SuperVersion.{SuperVersion}
 use Rattle.sv_model.specs.declared.writes.Write.{Write}
 use Rattle.sv_rule.specs.Numbers.{IsBased}
 use Rattle.sv_rule.specs.Sums.{below}
-use Rattle.sv_rule.specs.Supers.{LiveAt, current_of, current_serial, pack, pack_at, pack_of_serial}
+use Rattle.sv_model.specs.Supers.{LiveAt, current_of, current_serial, pack, pack_at, pack_of_serial}
 use Rattle.sv_rule.proofs.Basics.{some_is}
 use Rattle.sv_rule.proofs.CurrentLaws.{get_lt, some-at}
 use Rattle.sv_rule_seats.proofs.SeatSplits.{none_by}

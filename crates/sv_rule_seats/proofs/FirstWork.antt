@@ -5,7 +5,7 @@ use native.Mathlib.Decide.{ℕ_discrete}
 use Rattle.sv_model.specs.Books.{Books}
 use Rattle.sv_model.specs.Files.{Files, file_of}
 use Rattle.sv_model.specs.HeldFiles.{FilesHold, HasItsText}
-use Rattle.sv_model.specs.Lists.{Every, In, bit, times, total}
+use Rattle.sv_model.specs.Lists.{Every, In, bit, times, total, at}
 use Rattle.sv_model.specs.Numbers.{having, is_grabbed, is_pending}
 use Rattle.sv_model.specs.declared.records.FileStatus.{FileStatus}
 use Rattle.sv_model.specs.declared.records.FileStatus.TheVariants.{Live}
@@ -15,11 +15,10 @@ use Rattle.sv_rule.specs.Begins.{FirstBooks}
 use Rattle.sv_rule.specs.Blanks.{first_view}
 use Rattle.sv_rule.specs.Held.{FilesHeld, Told}
 use Rattle.sv_rule.specs.InHand.{Accounts, IsQuiet, WorkHeld}
-use Rattle.sv_rule.specs.Sums.{at}
+use Rattle.sv_model.specs.Tasks.{marks_of, Mark, Output}
 use Rattle.sv_rule.specs.Table.{number}
-use Rattle.sv_rule.specs.Tasks.{marks_of}
 use Rattle.sv_rule.specs.UnderWay.{excepts}
-use Rattle.sv_rule.specs.Views.{Disk, LaneView, Mark, Output, Start, idle}
+use Rattle.sv_rule.specs.Views.{Disk, LaneView, Start, idle}
 use Rattle.sv_rule.proofs.Basics.{each_one, every_none, some_is, true_not}
 use Rattle.sv_rule.proofs.CurrentLaws.{get_lt}
 use Rattle.sv_rule_seats.proofs.FirstBooks.{no_writes}

@@ -1,12 +1,11 @@
 -- The books of a database that is new are those of an opening.
 use Rattle.std.proofs.Common.{Some, [], arith, map, refl, replicate, suc, true, zero, ℕ, ◌<◌, ◌≡◌}
 use Rattle.sv_model.specs.Lawful.{Lawful}
-use Rattle.sv_model.specs.Lists.{bit}
+use Rattle.sv_model.specs.Lists.{bit, at}
 use Rattle.sv_model.specs.Openings.{IsOpening, opening_books}
 use Rattle.sv_model.specs.Registers.{entry}
 use Rattle.sv_rule.specs.Begins.{FirstBooks}
-use Rattle.sv_rule.specs.Sums.{at}
-use Rattle.sv_rule.specs.Tasks.{handle}
+use Rattle.sv_model.specs.Tasks.{handle}
 use Rattle.sv_rule.specs.Views.{Disk}
 use Rattle.sv_rule.proofs.Stepping.{next}
 

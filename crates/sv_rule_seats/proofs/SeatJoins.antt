@@ -7,16 +7,17 @@ use lib.ListN.{get_elem?}
 use Rattle.atomic_table.specs.Table.{Joins, State}
 use Rattle.sv_model.specs.Books.{Books}
 use Rattle.sv_model.specs.Cells.{Cell}
-use Rattle.sv_model.specs.Lists.{Every, same, times, total}
+use Rattle.sv_model.specs.Lists.{Every, same, times, total, at}
 use Rattle.sv_rule.specs.Blanks.{no_locks, no_start, nobody}
 use Rattle.sv_rule.specs.Home.{Seats}
 use Rattle.sv_rule.specs.InHand.{Accounts, IsClosing}
 use Rattle.sv_rule.specs.Rule.{Kept}
 use Rattle.sv_rule.specs.SeatPlays.{IsIdle, gathered, kept_of}
-use Rattle.sv_rule.specs.Sums.{Each, at}
+use Rattle.sv_rule.specs.Sums.{Each}
+use Rattle.sv_model.specs.Tasks.{job_count, marks_of, output_count, Mark}
 use Rattle.sv_rule.specs.Table.{holds, names, number, slot_of}
-use Rattle.sv_rule.specs.Tasks.{cell_count, has_db, is_spent, job_count, joined_count, lanes, marks_of, output_count, own_lane, some_count}
-use Rattle.sv_rule.specs.Views.{Body, Disk, Joined, LaneView, Mark, SlotView, away}
+use Rattle.sv_rule.specs.Tasks.{cell_count, has_db, is_spent, joined_count, lanes, own_lane, some_count}
+use Rattle.sv_rule.specs.Views.{Body, Disk, Joined, LaneView, SlotView, away}
 use Rattle.sv_rule.specs.declared.parts.Stored.{Stored}
 use Rattle.sv_rule.proofs.Basics.{each_set, every_append, every_cons, every_none, true_not, views-else}
 use Rattle.sv_rule.proofs.LockCounts.{db_none, dues_none, fills_le}

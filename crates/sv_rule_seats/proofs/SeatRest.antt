@@ -17,9 +17,10 @@ use Rattle.sv_rule.specs.Ledger.{most_hand}
 use Rattle.sv_rule.specs.Rounds.{Loaded}
 use Rattle.sv_rule.specs.Rule.{Kept}
 use Rattle.sv_rule.specs.Table.{holders, holds, number, owers, owes, reference, word}
-use Rattle.sv_rule.specs.Tasks.{all_adds, dues, fills, has_cell, has_db, has_dir, marks_of}
+use Rattle.sv_rule.specs.Tasks.{all_adds, dues, fills, has_cell, has_db, has_dir}
+use Rattle.sv_model.specs.Tasks.{marks_of, Output}
 use Rattle.sv_rule.specs.UnderWay.{Stock}
-use Rattle.sv_rule.specs.Views.{Body, CellHeld, Desk, Disk, Joined, LaneView, Output, Seat, Start, away}
+use Rattle.sv_rule.specs.Views.{Body, CellHeld, Desk, Disk, Joined, LaneView, Seat, Start, away}
 use Rattle.sv_rule.specs.declared.parts.Stored.{Stored}
 use Rattle.sv_rule.proofs.Basics.{every_none}
 use Rattle.sv_rule.proofs.CellLaws.{says-more}
@@ -27,6 +28,7 @@ use Rattle.sv_rule.proofs.FileTurns.{told-map}
 use Rattle.sv_rule.proofs.Places.{places_same}
 use Rattle.sv_rule_seats.proofs.SeatWork.{Moves, seated}
 use Rattle.sv_rule.proofs.Stepping.{right_same}
+use Rattle.sv_model.proofs.Basics.{none_some}
 
 -- a lane that has nothing is fresh
 pub fresh_none : (b : Books) (n f : ℕ) → FreshOf b n f away 0 0 0
@@ -50,9 +52,6 @@ module _ {S D C B : Type 0} (books : S → Books) (disk : D → Disk) (cell : C 
 
   abbrev V : State (Stored S D C B) LaneView
   V = record { words = s.words; homes = s.homes; views = ws }
-
-  no_some : {A : Type 0} (d : A) → None ≡ Some d → ⊥
-  no_some d e = cc
 
   pub kept-by-seats : (rest : (LaneView → ℕ) → ℕ) → Moves s.views ws k id v l x rest → seat.spent ≡ v.seat.spent
       → v.seat.spent ≡ false → Seats V → WorkHeld kept.b kept.work kept.start kept.d (number s) ws
@@ -78,14 +77,14 @@ module _ {S D C B : Type 0} (books : S → Books) (disk : D → Disk) (cell : C 
             out = kept.home.db.out;
           };
           desks = both (λ j u. (d : Desk) → u.locks.db ≡ Some d → (d.books ≡ b) × (d.work ≡ kept.work))
-              (λ d e. absurd (no_some d e)) (kept.home.desks id v me) kept.home.desks;
+              (λ d e. absurd (none_some d e)) (kept.home.desks id v me) kept.home.desks;
           dir = record {
             bit = omega (arith, move.sum has_dir, move.dir, kept.home.dir.bit);
             one = kept.home.dir.one;
             home = kept.home.dir.home;
             out = kept.home.dir.out;
           };
-          disks = both (λ j u. (d : Disk) → u.locks.dir ≡ Some d → d ≡ kept.d) (λ d e. absurd (no_some d e))
+          disks = both (λ j u. (d : Disk) → u.locks.dir ≡ Some d → d ≡ kept.d) (λ d e. absurd (none_some d e))
               (kept.home.disks id v me) kept.home.disks;
           slots = kept.home.slots;
         };
@@ -113,7 +112,7 @@ module _ {S D C B : Type 0} (books : S → Books) (disk : D → Disk) (cell : C 
               right_same refl refl refl refl e.0 e.1 (kept.sweep.right m f low near);
           apart = kept.sweep.apart;
           stock = both (λ j u. (d : Desk) → u.locks.db ≡ Some d → Stock d.books d.work u.hand)
-              (λ d e. absurd (no_some d e)) (kept.sweep.stock id v me) kept.sweep.stock;
+              (λ d e. absurd (none_some d e)) (kept.sweep.stock id v me) kept.sweep.stock;
         };
         fresh = both (λ j u. FreshIn b (number s) u) (λ f near. fresh_none b (number s f) f) (kept.fresh id v me)
             kept.fresh;
@@ -125,13 +124,13 @@ module _ {S D C B : Type 0} (books : S → Books) (disk : D → Disk) (cell : C 
                 home = λ z. let t = o.home z in (t.0, t.1, (t.2.0, t.2.1, says c (cell t.2.0) t.2.2));
                 out = o.out;
               };
-          lent = both (λ j u. (h : CellHeld) → u.locks.cell ≡ Some h → IsLent b ws h) (λ h e. absurd (no_some h e))
+          lent = both (λ j u. (h : CellHeld) → u.locks.cell ≡ Some h → IsLent b ws h) (λ h e. absurd (none_some h e))
               (lent_on says id v me)
               (λ j u at_u. lent_on says j u at_u);
           files = told-map (λ p q. FilesHeld b p q s.views) (λ p q. FilesHeld b p q ws) (λ p q h. record {
             hold = h.hold;
             written = both (λ j u. (o : Output) → u.known.task.output ≡ Some o → o.written ≡ true
-                → HasItsText b q o.meta.number) (λ o e. absurd (no_some o e)) (h.written id v me) h.written;
+                → HasItsText b q o.meta.number) (λ o e. absurd (none_some o e)) (h.written id v me) h.written;
             listed = both (λ j u. u.seat.spent ≡ false → Every (HasItsText b q) u.known.task.listed)
                 (λ _. every_none (HasItsText b q)) (λ _. h.listed id v me alive) h.listed;
             taken = both (λ j u. Every (λ m. m.taken ≡ true → file_of m.number q ≡ None) (marks_of u.known.task.job))

@@ -10,7 +10,7 @@ use Rattle.sv_model.specs.Books.{Books}
 use Rattle.sv_model.specs.Cells.{Cell}
 use Rattle.sv_model.specs.Journal.{by_lane}
 use Rattle.sv_model.specs.Lawful.{Lawful}
-use Rattle.sv_model.specs.Lists.{Every, same, total}
+use Rattle.sv_model.specs.Lists.{Every, same, total, at}
 use Rattle.sv_model.specs.Numbers.{IsRegistered}
 use Rattle.sv_model.specs.TableTextFields.{start}
 use Rattle.sv_model.specs.declared.records.FileStatus.TheVariants.{Gone}
@@ -21,7 +21,7 @@ use Rattle.sv_rule.specs.Home.{Seats}
 use Rattle.sv_rule.specs.InHand.{Accounts, IsClosing, WorkHeld}
 use Rattle.sv_rule.specs.Rule.{Kept}
 use Rattle.sv_rule.specs.SeatPlays.{MaySplit, split_left, split_right}
-use Rattle.sv_rule.specs.Sums.{Each, at}
+use Rattle.sv_rule.specs.Sums.{Each}
 use Rattle.sv_rule.specs.Table.{number, slot_of}
 use Rattle.sv_rule.specs.Tasks.{is_spent, joined_count, lanes, own_lane}
 use Rattle.sv_rule.specs.Views.{Body, Disk, Joined, LaneView, Start, Work}

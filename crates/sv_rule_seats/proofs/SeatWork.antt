@@ -11,10 +11,11 @@ use Rattle.sv_model.proofs.FlatKeys.{gone}
 use Rattle.sv_rule.specs.Blanks.{bare_known, bare_view}
 use Rattle.sv_rule.specs.InHand.{Accounts, IsClosing, IsQuiet, WorkHeld}
 use Rattle.sv_rule.specs.Sums.{Each}
+use Rattle.sv_model.specs.Tasks.{grabs, has_job, has_output, Output}
 use Rattle.sv_rule.specs.Table.{cached_at, holds, owes, slot_at}
-use Rattle.sv_rule.specs.Tasks.{all_adds, dues, endings, faults, fills, grabs, handles_of, has_cell, has_db, has_dir, has_job, has_output, holds_of, lanes, removals}
+use Rattle.sv_rule.specs.Tasks.{all_adds, dues, endings, faults, fills, handles_of, has_cell, has_db, has_dir, holds_of, lanes, removals}
 use Rattle.sv_rule.specs.UnderWay.{excepts}
-use Rattle.sv_rule.specs.Views.{Disk, Joined, LaneView, Output, Seat, Start, Work}
+use Rattle.sv_rule.specs.Views.{Disk, Joined, LaneView, Seat, Start, Work}
 use Rattle.sv_rule.proofs.Basics.{every_none, true_not}
 
 pub zero-cond : (q : Bool) (n : ℕ) → n ≡ 0 → cond q n 0 ≡ 0

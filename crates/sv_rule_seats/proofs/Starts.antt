@@ -20,7 +20,7 @@ use Rattle.sv_rule.specs.Numbers.{NumberOk, Numbers}
 use Rattle.sv_rule.specs.Rounds.{Loaded}
 use Rattle.sv_rule.specs.Rule.{Kept}
 use Rattle.sv_rule.specs.Sums.{below}
-use Rattle.sv_rule.specs.Supers.{current_of, has_current, pack}
+use Rattle.sv_model.specs.Supers.{current_of, has_current, pack}
 use Rattle.sv_rule.specs.Sweep.{lent}
 use Rattle.sv_rule.specs.Table.{cached_at, cell_word, holders, home, number, number_word, owers, reference, reference_word, slot, slot_at, slot_home, slot_word, spot, word}
 use Rattle.sv_rule.specs.UnderWay.{Stock}
@@ -33,9 +33,7 @@ use Rattle.sv_rule_seats.proofs.FirstBooks.{based-first, bears_none, below-one, 
 use Rattle.sv_rule_seats.proofs.FirstWork.{files-first, work-first}
 use Rattle.sv_rule_seats.proofs.SeatRest.{fresh_none}
 use Rattle.sv_rule.proofs.Sums.{by_less, same-else, same_le, same_one}
-
-no_some : {A : Type 0} (d : A) → None ≡ Some d → ⊥
-no_some d e = cc
+use Rattle.sv_model.proofs.Basics.{none_some}
 
 module _ {S D C B : Type 0} (books : S → Books) (disk : D → Disk) (cell : C → Option Cell) (body : B → Body)
     (lanes_made : ℕ) (one : 0 < lanes_made) (few : lanes_made ≤ 32) (b : Books) (d : Disk) (ws : List ℕ)
@@ -206,14 +204,14 @@ module _ {S D C B : Type 0} (books : S → Books) (disk : D → Disk) (cell : C 
         out = λ e. absurd (omega (arith, lock_zero 0 (omega arith), e));
       };
       desks = each_one (λ j u. (k : Desk) → u.locks.db ≡ Some k → (k.books ≡ b) × (k.work ≡ idle)) v
-          (λ k e. absurd (no_some k e));
+          (λ k e. absurd (none_some k e));
       dir = record {
         bit = sym (lock_zero 1 (omega arith));
         one = omega (arith, lock_zero 1 (omega arith));
         home = λ _. (is.Dir slots.dir, at_home 1 (is.Dir slots.dir) slots.dir_at, (slots.dir, refl, slots.disk_is));
         out = λ e. absurd (omega (arith, lock_zero 1 (omega arith), e));
       };
-      disks = each_one (λ j u. (k : Disk) → u.locks.dir ≡ Some k → k ≡ d) v (λ k e. absurd (no_some k e));
+      disks = each_one (λ j u. (k : Disk) → u.locks.dir ≡ Some k → k ≡ d) v (λ k e. absurd (none_some k e));
       slots = λ i l. record {
         empty = λ _. at_home (slot_home i) is.Nothing (slots.nothing i l);
         out = λ y. absurd (omega (arith, slot_zero i l, y));
@@ -253,7 +251,7 @@ module _ {S D C B : Type 0} (books : S → Books) (disk : D → Disk) (cell : C 
           };
       apart = tt;
       stock = each_one (λ j u. (k : Desk) → u.locks.db ≡ Some k → Stock k.books k.work u.hand) v
-          (λ k e. absurd (no_some k e));
+          (λ k e. absurd (none_some k e));
     };
     fresh = each_one (λ j u. FreshIn b (number O) u) v (λ f near. fresh_none b (number O f) f);
     held = record {
@@ -264,7 +262,7 @@ module _ {S D C B : Type 0} (books : S → Books) (disk : D → Disk) (cell : C 
         out = λ e. absurd (omega (arith, lock_zero (cell_word c) (omega (arith, near)), e));
       };
       lent = each_one (λ j u. (h : CellHeld) → u.locks.cell ≡ Some h → IsLent b (v ∷ []) h) v
-          (λ h e. absurd (no_some h e));
+          (λ h e. absurd (none_some h e));
       files = files-first lanes_made b d first;
       bodies = λ i r l e. absurd (no_ref r (sym (at_home (slot_home i) is.Nothing (slots.nothing i l)) ∙ e));
     };

@@ -4,12 +4,12 @@ use Rattle.std.proofs.lemmas.Bool.{lt-leb}
 use mathlib.Core.Logic.{dite}
 use native.Mathlib.Decide.{dec_le, ℕ_discrete}
 use Rattle.sv_model.specs.Books.{Books}
-use Rattle.sv_model.specs.Lists.{same, total}
+use Rattle.sv_model.specs.Lists.{same, total, at}
 use Rattle.sv_rule.specs.Blanks.{nobody}
 use Rattle.sv_rule.specs.Numbers.{Numbers}
 use Rattle.sv_rule.specs.ReferencePlays.{MayDrop, lowered}
-use Rattle.sv_rule.specs.Sums.{at, without}
-use Rattle.sv_rule.specs.Supers.{current_of}
+use Rattle.sv_rule.specs.Sums.{without}
+use Rattle.sv_model.specs.Supers.{current_of}
 use Rattle.sv_rule.specs.Sweep.{Right, Rights, pack_of}
 use Rattle.sv_rule.specs.Table.{number, slot, slot_of, spot}
 use Rattle.sv_rule.specs.Tasks.{lanes}

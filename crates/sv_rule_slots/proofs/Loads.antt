@@ -7,13 +7,13 @@ use lib.ListN.{get_elem?}
 use Rattle.atomic_table.specs.Table.{Allows, Me, State, keeps}
 use Rattle.sv_model.specs.Books.{Books}
 use Rattle.sv_model.specs.Cells.{Cell}
-use Rattle.sv_model.specs.Lists.{Every, total}
+use Rattle.sv_model.specs.Lists.{Every, total, at}
 use Rattle.sv_rule.specs.Fresh.{FreshOf, Past, floor_of}
 use Rattle.sv_rule.specs.Rounds.{Loaded, Rounds}
 use Rattle.sv_rule.specs.Rule.{Kept}
 use Rattle.sv_rule.specs.SlotPlays.{IsCurrentAt, Looked, checked, lends, looked, looked_by}
-use Rattle.sv_rule.specs.Sums.{at, without}
-use Rattle.sv_rule.specs.Supers.{current_of, end_at}
+use Rattle.sv_rule.specs.Sums.{without}
+use Rattle.sv_model.specs.Supers.{current_of, end_at}
 use Rattle.sv_rule.specs.Sweep.{lent, pack_of}
 use Rattle.sv_rule.specs.Table.{names, number, number_word, slot_of, word}
 use Rattle.sv_rule.specs.UnderWay.{Stock, excepts, fit}

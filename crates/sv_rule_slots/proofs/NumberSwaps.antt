@@ -5,7 +5,7 @@ use native.Mathlib.Decide.{dec_le, ℕ_discrete}
 use Rattle.atomic_table.specs.Table.{Allows, Me, State, keeps}
 use Rattle.sv_model.specs.Books.{Books}
 use Rattle.sv_model.specs.Cells.{Cell}
-use Rattle.sv_model.specs.Lists.{Every, same, total}
+use Rattle.sv_model.specs.Lists.{Every, same, total, at}
 use Rattle.sv_rule.specs.Blanks.{nobody}
 use Rattle.sv_rule.specs.Fits.{BodyFits}
 use Rattle.sv_rule.specs.Fresh.{FreshOf, Past}
@@ -14,8 +14,8 @@ use Rattle.sv_rule.specs.RoundPlays.{MaySwap, Numbered, numbered}
 use Rattle.sv_rule.specs.Rounds.{Rounds}
 use Rattle.sv_rule.specs.Rule.{Kept}
 use Rattle.sv_rule.specs.SlotPlays.{reached}
-use Rattle.sv_rule.specs.Sums.{Each, at, without}
-use Rattle.sv_rule.specs.Supers.{current_of}
+use Rattle.sv_rule.specs.Sums.{Each, without}
+use Rattle.sv_model.specs.Supers.{current_of}
 use Rattle.sv_rule.specs.Sweep.{Right}
 use Rattle.sv_rule.specs.Table.{cached_at, holders, holds, number, number_word, owers, owes, reference, reference_word, slot, slot_of, slot_word, spot, word}
 use Rattle.sv_rule.specs.UnderWay.{Stock, fit, middle}

@@ -24,12 +24,13 @@ use Rattle.sv_rule.specs.Numbers.{Numbers}
 use Rattle.sv_rule.specs.ReferencePlays.{MayOpen, NewInCell, Opened, opened}
 use Rattle.sv_rule.specs.Rounds.{Rounds}
 use Rattle.sv_rule.specs.Rule.{Kept}
-use Rattle.sv_rule.specs.Supers.{LiveAt, current_of, pack}
+use Rattle.sv_model.specs.Supers.{LiveAt, current_of, pack}
+use Rattle.sv_model.specs.Tasks.{handle_in, Task}
+use Rattle.sv_model.specs.Turns.{IsNewMemtable, Opens, Turns}
 use Rattle.sv_rule.specs.Table.{holders, number, number_word, owers, owes, reference, reference_word, slot, slot_word, word}
-use Rattle.sv_rule.specs.Tasks.{handle_in, handles_of, has_db}
-use Rattle.sv_rule.specs.Turns.{IsNewMemtable, Opens, Turns}
+use Rattle.sv_rule.specs.Tasks.{handles_of, has_db}
 use Rattle.sv_rule.specs.UnderWay.{Stock, fit, middle}
-use Rattle.sv_rule.specs.Views.{Bodied, Body, Desk, Disk, LaneView, Locks, Start, Task, Work, idle, opens}
+use Rattle.sv_rule.specs.Views.{Bodied, Body, Desk, Disk, LaneView, Locks, Start, Work, idle, opens}
 use Rattle.sv_rule.specs.declared.parts.Stored.{Stored}
 use Rattle.sv_rule.proofs.Assembly.{N, kept-by-word, low_id, stays}
 use Rattle.sv_rule.proofs.Basics.{at_desk, each_other, every_append, every_cons, every_map, every_none, get-past, has_one, no_desk_in}

@@ -8,7 +8,7 @@ use lib.ListN.{get_elem?}
 use Rattle.atomic_table.specs.Table.{State}
 use Rattle.sv_model.specs.Books.{Books}
 use Rattle.sv_model.specs.Cells.{Cell}
-use Rattle.sv_model.specs.Lists.{same, total}
+use Rattle.sv_model.specs.Lists.{same, total, at}
 use Rattle.sv_model.specs.declared.sv_refs.SvRef.{SvRef}
 use Rattle.sv_rule.specs.Blanks.{nobody}
 use Rattle.sv_rule.specs.Fits.{BodyFits}
@@ -18,7 +18,7 @@ use Rattle.sv_rule.specs.InHand.{Accounts}
 use Rattle.sv_rule.specs.Ledger.{most_hand}
 use Rattle.sv_rule.specs.Rule.{Kept}
 use Rattle.sv_rule.specs.SlotPlays.{reached}
-use Rattle.sv_rule.specs.Sums.{at, put}
+use Rattle.sv_rule.specs.Sums.{put}
 use Rattle.sv_rule.specs.Sweep.{Right, lent}
 use Rattle.sv_rule.specs.Table.{names, number, slot, slot_home, slot_of, slot_word, spot}
 use Rattle.sv_rule.specs.UnderWay.{Stock, fit, middle}

@@ -3,6 +3,7 @@ use Rattle.std.proofs.Common.{Bool, None, Option, Some, [], ap, arith, cond, eq-
 use mathlib.Core.Logic.{dite}
 use native.Mathlib.Decide.{ℕ_discrete}
 use Rattle.atomic_table.specs.Table.{Allows, Me, State, keeps}
+use Rattle.sv_model.proofs.Basics.{none_some}
 use Rattle.sv_model.specs.Books.{Books}
 use Rattle.sv_model.specs.Cells.{Cell}
 use Rattle.sv_model.specs.Lists.{In, same, total}
@@ -12,7 +13,7 @@ use Rattle.sv_rule.specs.Numbers.{Numbers}
 use Rattle.sv_rule.specs.ReferencePlays.{Added, CanAdd, Dropped, MayDropAt, UnderLock, added, dropped, has_taken_at, lowered, lowers, was_last}
 use Rattle.sv_rule.specs.Rule.{Kept}
 use Rattle.sv_rule.specs.Sums.{without}
-use Rattle.sv_rule.specs.Supers.{current_of, pack}
+use Rattle.sv_model.specs.Supers.{current_of, pack}
 use Rattle.sv_rule.specs.Sweep.{Rights}
 use Rattle.sv_rule.specs.Table.{holders, holds, number, owers, owes, reference, reference_word, slot, word}
 use Rattle.sv_rule.specs.UnderWay.{Apart, Stock, excepts}
@@ -148,7 +149,7 @@ module _ {S D C B : Type 0} (books : S → Books) (disk : D → Disk) (cell : C 
               v.known.start,
             ))
             places small refl refl (λ z. absurd (true_not (sym z ∙ alive)))
-            kept.numbers kept.sweep.right kept.sweep.apart (λ d e. absurd (nothing_some (sym none ∙ (sym stand ∙ e))))
+            kept.numbers kept.sweep.right kept.sweep.apart (λ d e. absurd (none_some d (sym none ∙ (sym stand ∙ e))))
             refl refl)
             (λ d is. let h = kept.home.desks id v me d is in
             let d' : Desk = record { books = d.books; work = lowered p d.work; due = d.due } in
@@ -207,9 +208,6 @@ module _ {S D C B : Type 0} (books : S → Books) (disk : D → Disk) (cell : C 
         },
       )
     where
-      nothing_some : {d : Desk} → None ≡ Some d → ⊥
-      nothing_some e = cc
-
       spent_alive : {z : Bool} → z ≡ true → z ≡ false → ⊥
       spent_alive e d = cc
 

@@ -11,7 +11,7 @@ use Rattle.sv_model.specs.After.{After}
 use Rattle.sv_model.specs.Books.{Books}
 use Rattle.sv_model.specs.Cells.{Cell}
 use Rattle.sv_model.specs.Families.{is_retired}
-use Rattle.sv_model.specs.Lists.{In}
+use Rattle.sv_model.specs.Lists.{In, at}
 use Rattle.sv_model.specs.declared.records.Family.{Family}
 use Rattle.sv_model.specs.declared.records.SuperVersion.{SuperVersion}
 use Rattle.sv_model.specs.declared.records.Top.{Top}
@@ -24,12 +24,13 @@ use Rattle.sv_rule.specs.Numbers.{Numbers}
 use Rattle.sv_rule.specs.RoundPlays.{EndedCurrent, MayEndCurrent, Rounded, ended_current, is_retired_in, rounded}
 use Rattle.sv_rule.specs.Rounds.{Rounds}
 use Rattle.sv_rule.specs.Rule.{Kept}
-use Rattle.sv_rule.specs.Sums.{at, below}
-use Rattle.sv_rule.specs.Supers.{current_of, has_current}
+use Rattle.sv_rule.specs.Sums.{below}
+use Rattle.sv_model.specs.Supers.{current_of, has_current}
+use Rattle.sv_model.specs.Turns.{EndsCurrent, Turns}
+use Rattle.sv_model.specs.Tasks.{Task}
 use Rattle.sv_rule.specs.Table.{holders, number, number_word, owers, owes, reference, reference_word, slot, slot_word, word}
-use Rattle.sv_rule.specs.Turns.{EndsCurrent, Turns}
 use Rattle.sv_rule.specs.UnderWay.{Stock, excepts, fit, middle}
-use Rattle.sv_rule.specs.Views.{Body, Desk, Disk, Joined, LaneView, Locks, Seat, Task, Work, begun, idle, opens}
+use Rattle.sv_rule.specs.Views.{Body, Desk, Disk, Joined, LaneView, Locks, Seat, Work, begun, idle, opens}
 use Rattle.sv_rule.specs.declared.parts.Stored.{Stored}
 use Rattle.sv_rule.proofs.Assembly.{N, kept-by-word, low_id, stays}
 use Rattle.sv_rule.proofs.Basics.{at_desk, every_map, no_desk_in, some_is, true_not, views-else, views-here}

@@ -15,12 +15,13 @@ use Rattle.sv_rule.specs.Home.{IsState}
 use Rattle.sv_rule.specs.Ledger.{Counted, Vacant}
 use Rattle.sv_rule.specs.ReferencePlays.{MaySettle, Settled, settled}
 use Rattle.sv_rule.specs.Rule.{Kept}
-use Rattle.sv_rule.specs.Supers.{LiveAt, current_of, pack}
+use Rattle.sv_model.specs.Supers.{LiveAt, current_of, pack}
+use Rattle.sv_model.specs.Turns.{EndsSuper, NoneRetires, Turns}
+use Rattle.sv_model.specs.Tasks.{Task}
 use Rattle.sv_rule.specs.Table.{holders, home, number, number_word, owers, owes, reference, reference_word, slot, slot_word, word}
 use Rattle.sv_rule.specs.Tasks.{fill_count, fills, has_db, some_count}
-use Rattle.sv_rule.specs.Turns.{EndsSuper, NoneRetires, Turns}
 use Rattle.sv_rule.specs.UnderWay.{Stock}
-use Rattle.sv_rule.specs.Views.{Body, CellHeld, Desk, Disk, LaneView, Locks, Task}
+use Rattle.sv_rule.specs.Views.{Body, CellHeld, Desk, Disk, LaneView, Locks}
 use Rattle.sv_rule.specs.declared.parts.Stored.{Stored}
 use Rattle.sv_rule.proofs.Assembly.{N, kept-by-word, low_id, stays}
 use Rattle.sv_rule.proofs.Basics.{at_desk, every_map, has_one, no_desk_in}

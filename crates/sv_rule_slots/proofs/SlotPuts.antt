@@ -6,14 +6,14 @@ use Rattle.atomic_table.proofs.Lists.{exchanged, set_else, set_here}
 use Rattle.atomic_table.specs.Table.{Act, Allows, Me, Valid, carried_after, gives, keeps, stepped}
 use Rattle.sv_model.specs.Books.{Books}
 use Rattle.sv_model.specs.Cells.{Cell}
-use Rattle.sv_model.specs.Lists.{In, same, total}
+use Rattle.sv_model.specs.Lists.{In, same, total, at}
 use Rattle.sv_model.specs.declared.sv_refs.SvRef.{SvRef}
 use Rattle.sv_rule.specs.Fits.{BodyFits}
 use Rattle.sv_rule.specs.Fresh.{Past}
 use Rattle.sv_rule.specs.Ledger.{most_hand}
 use Rattle.sv_rule.specs.Rule.{Kept}
 use Rattle.sv_rule.specs.SlotPlays.{PutBack, Rested, counted, rested, slotted}
-use Rattle.sv_rule.specs.Sums.{at, put}
+use Rattle.sv_rule.specs.Sums.{put}
 use Rattle.sv_rule.specs.Sweep.{lent, pack_of}
 use Rattle.sv_rule.specs.Table.{Box, names, number, slot, slot_home, slot_of, slot_word, spot}
 use Rattle.sv_rule.specs.UnderWay.{fit}

@@ -9,7 +9,7 @@ use Rattle.atomic_table.proofs.Lists.{set_else, set_here}
 use Rattle.atomic_table.specs.Table.{Act, Allows, Me, Valid, carried_after, keeps, stepped, takes}
 use Rattle.sv_model.specs.Books.{Books}
 use Rattle.sv_model.specs.Cells.{Cell}
-use Rattle.sv_model.specs.Lists.{same}
+use Rattle.sv_model.specs.Lists.{same, at}
 use Rattle.sv_model.specs.declared.sv_refs.SvRef.{SvRef}
 use Rattle.sv_rule.specs.Fits.{BodyFits}
 use Rattle.sv_rule.specs.Fresh.{Past, floor_of}
@@ -17,8 +17,8 @@ use Rattle.sv_rule.specs.Home.{SlotOk}
 use Rattle.sv_rule.specs.InHand.{Accounts}
 use Rattle.sv_rule.specs.Rule.{Kept}
 use Rattle.sv_rule.specs.SlotPlays.{IsCurrentAt, Used, counted, slotted}
-use Rattle.sv_rule.specs.Sums.{at, put}
-use Rattle.sv_rule.specs.Supers.{current_of}
+use Rattle.sv_rule.specs.Sums.{put}
+use Rattle.sv_model.specs.Supers.{current_of}
 use Rattle.sv_rule.specs.Sweep.{Right, lent, pack_of}
 use Rattle.sv_rule.specs.Table.{Box, names, number, slot, slot_home, slot_of, slot_word, spot, word}
 use Rattle.sv_rule.specs.UnderWay.{excepts, fit, middle}

@@ -10,7 +10,7 @@ use crate::streams::{Failed, Sink, Source};
 use std::alloc::{AllocError, Global};
 
 /// The greatest number of bytes of a script.
-pub const GREATEST_SCRIPT: usize = 16_777_216;
+pub const MAX_SCRIPT: usize = 16_777_216;
 
 /// How many bytes one call of a source is asked for.
 const PIECE: usize = 65_536;
@@ -55,8 +55,8 @@ pub fn read_all<S: Source>(alloc: Global, source: &mut S) -> Result<Vec<u8>, Rea
         return Err(ReadStop::OutOfMemory);
     };
     let mut bytes = Vec::new(alloc);
-    while bytes.len() <= GREATEST_SCRIPT {
-        buffer.truncate(GREATEST_SCRIPT + 1 - bytes.len());
+    while bytes.len() <= MAX_SCRIPT {
+        buffer.truncate(MAX_SCRIPT + 1 - bytes.len());
         let count = read_piece(source, &mut buffer, &mut bytes)?;
         if count == 0 {
             return Ok(bytes);

@@ -6,7 +6,8 @@ use Rattle.std.proofs.lemmas.Bool.Decides.{nat_tests}
 use Rattle.std.proofs.lemmas.List.Elements.{All-from_recursion}
 use Rattle.std.proofs.lemmas.List.Sums.{sum_by-cons}
 use Rattle.std.specs.List.{AllByRecursion, count_by}
-use Rattle.sv_script.specs.declared.scripts.TheConstants.{MAX_COMMANDS, MAX_LANES}
+use Rattle.sv_model.specs.declared.limits.TheConstants.{MAX_LANES}
+use Rattle.sv_script.specs.declared.scripts.TheConstants.{MAX_COMMANDS}
 use Rattle.sv_script.specs.declared.scripts.BadKind.{BadKind}
 use Rattle.sv_script.specs.declared.scripts.BadKind.TheVariants as kinds
 use Rattle.sv_script.specs.declared.scripts.BadLine.{BadLine}

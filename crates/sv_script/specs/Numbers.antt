@@ -2,7 +2,7 @@
 use Rattle.std.specs.Prelude.{ℕ, ◌+◌, ◌-◌, ◌*◌, ◌^◌, Bool, ◌&&◌, nat_le, nat_lt, if◌then◌else◌}
 use Rattle.std.specs.Prelude.{List, length, fold, Option, Some, None}
 use Rattle.std.specs.List.{list_all}
-use Rattle.sv_script.specs.declared.scripts.TheConstants.{MAX_LANES}
+use Rattle.sv_model.specs.declared.limits.TheConstants.{MAX_LANES}
 use Rattle.sv_script.specs.declared.parsing.decimals.TheConstants.{MAX_DIGITS}
 
 abbrev pub is_digit : ℕ → Bool

@@ -13,7 +13,5 @@ pub use commands::Command;
 pub use outcomes::Outcome;
 pub use parsing::{parse, printed_items_are_read};
 pub use replies::{LaneReport, Reply, Tail};
-pub use scripts::{
-    BadKind, BadLine, Line, MAX_COMMANDS, MAX_LANES, MAX_PHASES, Script, ScriptError,
-};
+pub use scripts::{BadKind, BadLine, Line, MAX_COMMANDS, MAX_PHASES, Script, ScriptError};
 pub use texts::{no_memory_text, outcome_text, reply_text, report_text, tail_text};

@@ -5,9 +5,6 @@ ghost use Rattle.sv_script.specs.declared.scripts.ScriptError.TheVariants as err
 use crate::commands::Command;
 use sv_model::{Items, OutOfMemory};
 
-/// The greatest number of a lane.
-pub const MAX_LANES: u8 = 32;
-
 /// The greatest number of command lines of a script.
 pub const MAX_COMMANDS: usize = 500_000;
 

@@ -3,9 +3,9 @@ use Rattle.std.proofs.Common.{Bool, List, None, Option, Some, [], ap, arith, con
 use mathlib.Core.Logic.{dite}
 use native.Mathlib.Decide.{ℕ_discrete}
 use Rattle.atomic_table.specs.Table.{rest}
-use Rattle.sv_model.specs.Lists.{same, times, total}
+use Rattle.sv_model.specs.Lists.{same, times, total, at}
 use Rattle.sv_rule.proofs.Sums.{at-is, at-put_else, at-put_same, length-put, same-self, total-put, total-zero}
-use Rattle.sv_rule.specs.Sums.{at, put}
+use Rattle.sv_rule.specs.Sums.{put}
 use Rattle.sv_rule.specs.Sweep.{lent}
 use Rattle.sv_rule.specs.Table.{slot_home, slot_of, spot}
 use Rattle.sv_rule.specs.Tasks.{some_count}

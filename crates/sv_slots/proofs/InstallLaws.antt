@@ -16,7 +16,8 @@ use Rattle.sv_rule.specs.RoundPlays.{EndedCurrent, MayEndCurrent, MaySwap, Numbe
 use Rattle.sv_rule.specs.Rule.{Kept}
 use Rattle.sv_rule.specs.SweepPlays.{Passed, Sweeps, Swept}
 use Rattle.sv_rule.specs.Table.{number_word, slot_home, slot_word, spot}
-use Rattle.sv_rule.specs.Views.{Bodied, Body, Desk, Disk, LaneView, Task, sweeping}
+use Rattle.sv_rule.specs.Views.{Bodied, Body, Desk, Disk, LaneView, sweeping}
+use Rattle.sv_model.specs.Tasks.{Task}
 use Rattle.sv_rule.specs.declared.parts.Stored.{Stored}
 use Rattle.sv_rule.specs.declared.parts.Stored.TheVariants as is
 use Rattle.sv_slots.proofs.Laws.{desk_is_of}

@@ -10,10 +10,11 @@ use Rattle.sv_rule.specs.Fits.{BodyFits}
 use Rattle.sv_rule.specs.Numbers.{NumberOk}
 use Rattle.sv_rule.specs.ReferencePlays.{MayOpen, opened, settled}
 use Rattle.sv_rule.specs.RoundPlays.{MayEndCurrent, MaySwap, Numbered, ended_current, numbered, rounded}
-use Rattle.sv_rule.specs.Supers.{current_of, current_serial, pack_of_serial}
+use Rattle.sv_model.specs.Supers.{current_of, current_serial, pack_of_serial}
+use Rattle.sv_model.specs.Tasks.{Task}
 use Rattle.sv_rule.specs.SweepPlays.{Sweeps}
 use Rattle.sv_rule.specs.Tasks.{some_count}
-use Rattle.sv_rule.specs.Views.{Bodied, Body, Desk, LaneView, Task, begun, opens}
+use Rattle.sv_rule.specs.Views.{Bodied, Body, Desk, LaneView, begun, opens}
 use Rattle.sv_slots.proofs.Carrying.{beside, seated}
 use Rattle.sv_slots.specs.Installs.{IsSwept, installed, retired}
 

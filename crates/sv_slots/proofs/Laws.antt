@@ -16,7 +16,8 @@ use Rattle.sv_rule.specs.LockPlays.{FindsAsBooks, GaveCell, GaveDb, GaveDir, May
 use Rattle.sv_rule_slots.proofs.Loads.{loads}
 use Rattle.sv_rule_slots.proofs.References.{adds_at}
 use Rattle.sv_rule.specs.ReferencePlays.{Added, CanAdd}
-use Rattle.sv_rule.specs.Views.{Bodied, Desk, FileRead, Task}
+use Rattle.sv_rule.specs.Views.{Bodied, Desk, FileRead}
+use Rattle.sv_model.specs.Tasks.{Task}
 use Rattle.sv_rule_slots.proofs.SlotPuts.{puts, rests}
 use Rattle.sv_rule_slots.proofs.SlotUses.{uses}
 use Rattle.sv_rule.specs.Ledger.{most_hand}

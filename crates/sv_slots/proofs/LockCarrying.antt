@@ -3,14 +3,14 @@ use Rattle.std.proofs.Common.{List, None, Option, Some, [], ap, arith, drop, len
 use Rattle.atomic_table.specs.Table.{rest}
 use Rattle.sv_model.specs.Books.{Books}
 use Rattle.sv_model.specs.Cells.{Cell}
-use Rattle.sv_model.specs.Lists.{same, times}
+use Rattle.sv_model.specs.Lists.{same, times, at}
 use Rattle.sv_model.specs.declared.writes.Write.{Write}
 use Rattle.sv_rule.proofs.Sums.{same-self}
 use Rattle.sv_rule.specs.LockPlays.{gave_cell, gave_db, gave_dir, took_cell, took_db, took_dir, wrote_cell}
-use Rattle.sv_rule.specs.Sums.{at}
+use Rattle.sv_model.specs.Tasks.{Task}
 use Rattle.sv_rule.specs.Table.{cell_word}
 use Rattle.sv_rule.specs.Tasks.{some_count}
-use Rattle.sv_rule.specs.Views.{Desk, Disk, FileRead, LaneView, SlotView, Task, away}
+use Rattle.sv_rule.specs.Views.{Desk, Disk, FileRead, LaneView, SlotView, away}
 use Rattle.sv_rule.specs.declared.parts.Stored.{Stored}
 use Rattle.sv_rule.specs.declared.parts.Stored.TheVariants as is
 use Rattle.sv_slots.proofs.Carrying.{first_is}

@@ -1,19 +1,20 @@
 -- What a lane knows along a borrow.
 use Rattle.std.proofs.Common.{None, Bool, List, Option, Some, [], ap, arith, cond, eq-eqb, false, get_or, le-leb, nat_le, ne_eqb, refl, subst, suc, sym, true, zero, ℕ, ⊎_elim, ◌+◌, ◌<◌, ◌∙◌, ◌∷◌, ◌≡◌, ◌≢◌, ◌≤◌}
 use Rattle.atomic_table.specs.Table.{Me, rest}
-use Rattle.sv_model.specs.Lists.{In, same, total}
+use Rattle.sv_model.specs.Lists.{In, same, total, at}
 use Rattle.sv_model.specs.declared.sv_refs.SvRef.{SvRef}
 use Rattle.sv_rule.proofs.Sums.{at-put_same}
 use Rattle.sv_rule.specs.ReferencePlays.{learnt}
 use Rattle.sv_rule.specs.SlotPlays.{IsCurrentAt, Looked, PutBack, Used, checked, counted, is_free, is_idle, looked, looked_by, reached, rested, slotted}
-use Rattle.sv_rule.specs.Sums.{at, put, without}
-use Rattle.sv_rule.specs.Supers.{current_of}
+use Rattle.sv_rule.specs.Sums.{put, without}
+use Rattle.sv_model.specs.Supers.{current_of}
 use Rattle.sv_rule.specs.Table.{slot_home, slot_of, spot}
 use Rattle.sv_rule.specs.Views.{Bodied, Body, Desk, LaneView, SlotView, Work, away, begun, borrow, held, idle, opens, sweeping}
 use Rattle.sv_rule.specs.declared.parts.Stored.{Stored}
 use Rattle.sv_rule.specs.declared.parts.Stored.TheVariants as is
 use Rattle.sv_slots.specs.Borrows.{IsHit, IsLooked, IsStale, IsTaken, Told, word_of, borrowed, handed, saw, swept_back}
 use Rattle.sv_slots.specs.Seats.{CarriesAt, CarriesNothing, CarriesRef, HasDesk, IsLane, bodied}
+use Rattle.sv_model.proofs.Basics.{none_some}
 
 put_put : {A : Type 0} (d : A) (l : List A) (i : ℕ) (a b : A) → put d (put d l i a) i b ≡ put d l i b
 put_put d [] zero a b = refl
@@ -483,16 +484,13 @@ some_of_is (suc n) = refl
 some_is : (a b : ℕ) → Some a ≡ Some b → a ≡ b
 some_is a b e = cc
 
-no_some : (b : ℕ) → None ≡ Some b → ⊥
-no_some b e = cc
-
 pub some_of_pos : (n p : ℕ) → some_of n ≡ Some p → 0 < p
 unfolding some_of
-some_of_pos zero p e = absurd (no_some p e)
+some_of_pos zero p e = absurd (none_some p e)
 some_of_pos (suc n) p e = omega (arith, some_is (suc n) p e)
 
 pub none_pos : (p : ℕ) → None ≡ Some p → 0 < p
-none_pos p e = absurd (no_some p e)
+none_pos p e = absurd (none_some p e)
 
 pub some_pos : (n p : ℕ) → n ≢ 0 → Some n ≡ Some p → 0 < p
 some_pos n p ne e = omega (arith, ne, some_is n p e)

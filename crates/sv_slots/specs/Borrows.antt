@@ -1,10 +1,10 @@
 -- What the calls on a lane's own slots make of its view, and what they answer.
 use Rattle.std.specs.Prelude.{◌≡◌, ◌≢◌, ◌+◌, ◌≤◌, ◌<◌, ◌∷◌, [], ℕ, Option, Some, None, false}
 use Rattle.sv_model.specs.declared.sv_refs.SvRef.{SvRef}
-use Rattle.sv_model.specs.Lists.{In, times}
+use Rattle.sv_model.specs.Lists.{In, times, at}
 use Rattle.sv_rule.specs.ReferencePlays.{learnt}
 use Rattle.sv_rule.specs.SlotPlays.{IsCurrentAt, counted, looked_by, slotted}
-use Rattle.sv_rule.specs.Sums.{at, put, without}
+use Rattle.sv_rule.specs.Sums.{put, without}
 use Rattle.sv_rule.specs.Views.{Bodied, Body, LaneView, away, borrow}
 use Rattle.sv_slots.specs.Seats.{bodied}
 use Rattle.sv_slots.specs.declared.borrows.Back.{Back}

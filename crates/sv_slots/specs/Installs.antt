@@ -6,7 +6,8 @@ use Rattle.sv_rule.specs.Blanks.{desk_of, old_in, taken_in}
 use Rattle.sv_rule.specs.ReferencePlays.{learnt, opened}
 use Rattle.sv_rule.specs.RoundPlays.{ended_current, numbered, rounded}
 use Rattle.sv_rule.specs.SweepPlays.{beyond, works}
-use Rattle.sv_rule.specs.Views.{Bodied, Body, LaneView, Task, begun, opens}
+use Rattle.sv_rule.specs.Views.{Bodied, Body, LaneView, begun, opens}
+use Rattle.sv_model.specs.Tasks.{Task}
 use Rattle.sv_slots.specs.Seats.{bodied}
 
 -- A new SuperVersion of family f is current, in the books b, and the sweep begins; r was the number word, and the old

@@ -2,7 +2,7 @@
 use Rattle.std.specs.Prelude.{◌≡◌, ◌≤◌, ◌<◌, ℕ, true, false, Some}
 use Rattle.sv_model.specs.Lists.{same, total}
 use Rattle.sv_rule.specs.ReferencePlays.{dropped, has_taken_at}
-use Rattle.sv_rule.specs.Supers.{current_of}
+use Rattle.sv_model.specs.Supers.{current_of}
 use Rattle.sv_rule.specs.Views.{Desk, LaneView, idle}
 use Rattle.sv_slots.specs.declared.refs.Sub.{Sub}
 use Rattle.sv_slots.specs.declared.refs.Sub.TheVariants.{Last, More}

@@ -1,8 +1,7 @@
 // A lane borrows what its slot of a family caches, and gives it back.
 ghost use Rattle.std.specs.Prelude.{◌≡◌, ◌<◌, ◌≤◌, IfErr, IfOk, length};
-ghost use Rattle.sv_model.specs.Lists.{In, same, total};
-ghost use Rattle.sv_rule.specs.Sums.{at};
-ghost use Rattle.sv_rule.specs.Supers.{current_of};
+ghost use Rattle.sv_model.specs.Lists.{In, same, total, at};
+ghost use Rattle.sv_model.specs.Supers.{current_of};
 ghost use Rattle.sv_rule.specs.Table.{slot_of};
 ghost use Rattle.sv_rule.specs.Views.{away, idle};
 ghost use Rattle.sv_slots.specs.Seats.{HasDesk, Lends, bodied};

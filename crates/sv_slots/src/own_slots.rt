@@ -1,9 +1,8 @@
 // What a lane does with its own slot of a family, by a seat that stands alone.
 ghost use Rattle.std.specs.Prelude.{◌≡◌, ◌<◌, ◌≤◌, IfErr, IfOk, length};
 ghost use Rattle.atomic_table.specs.Table.{rest};
-ghost use Rattle.sv_model.specs.Lists.{In, same, total};
-ghost use Rattle.sv_rule.specs.Supers.{current_of};
-ghost use Rattle.sv_rule.specs.Sums.{at};
+ghost use Rattle.sv_model.specs.Lists.{In, same, total, at};
+ghost use Rattle.sv_model.specs.Supers.{current_of};
 ghost use Rattle.sv_rule.specs.Table.{slot_home, slot_of, spot};
 ghost use Rattle.sv_rule.specs.Views.{away, idle};
 ghost use Rattle.sv_slots.specs.Seats.{CarriesAt, CarriesNothing, HasDesk, IsLane, Lends, bodied};

@@ -1,7 +1,8 @@
 // What a call is about, where its words do not tell it. Each caller picks it.
 ghost use Rattle.std.specs.Prelude.{List, [], ℕ};
 ghost use Rattle.sv_rule.specs.Blanks.{bare_task};
-ghost use Rattle.sv_rule.specs.Views.{Bodied, Task};
+ghost use Rattle.sv_rule.specs.Views.{Bodied};
+ghost use Rattle.sv_model.specs.Tasks.{Task};
 
 use std::marker::Brand;
 

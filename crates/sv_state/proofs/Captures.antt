@@ -16,7 +16,7 @@ use Rattle.sv_laws.specs.Captures.{IsFileCaptured, IsMergePlanned}
 use Rattle.sv_laws.specs.Changes.{flush_begun, given_up, merge_planned}
 use Rattle.sv_laws.specs.Snapping.{HasLiveCuts}
 use Rattle.sv_laws.specs.Installs.{IsOpen}
-use Rattle.sv_laws.proofs.Items.{some}
+use Rattle.sv_model.proofs.Entries.{some}
 use Rattle.sv_laws.proofs.Kept.{sound-kept}
 use Rattle.sv_objects.specs.declared.bodies.Body.{Body}
 use Rattle.sv_state.specs.Capturing.{CanBegin}

@@ -14,12 +14,12 @@ use Rattle.sv_model.specs.Registers.{entry, GoesOn}
 use Rattle.sv_model.specs.Steady.{Sound}
 use Rattle.sv_model.proofs.AfterLaws.{after-through}
 use Rattle.sv_model.proofs.NumberLaws.{one_entry}
+use Rattle.sv_model.proofs.Entries.{in-suc, some}
 use Rattle.sv_model.proofs.Lists.{same_here}
 use Rattle.sv_model.proofs.Registers.{length-change, total_entry}
 use Rattle.sv_files.specs.Calls.{IsFound, IsScanned, IsTaken, MayBeTaken, grab, ungrabbed, with_hold}
 use Rattle.sv_laws.specs.Changes.{grabbed, held}
 use Rattle.sv_laws.proofs.Grabs.{Steps, all-strayed, below-captured, given-back-steps, goes-map, removed-steps, stray_of, taken-steps}
-use Rattle.sv_laws.proofs.Items.{in-suc, some}
 use Rattle.sv_laws.proofs.Kept.{sound-kept}
 use Rattle.sv_state.proofs.Calls.{same-books}
 

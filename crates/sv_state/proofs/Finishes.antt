@@ -29,9 +29,9 @@ use Rattle.sv_laws.specs.Changes.{compacted, flushed, given_up}
 use Rattle.sv_laws.specs.Installs.{IsOpen, live_super}
 use Rattle.sv_laws.specs.NewCurrents.{IsCompacted, IsFlushed, IsParted}
 use Rattle.sv_laws.proofs.Apart.{true_false}
-use Rattle.sv_laws.proofs.Items.{some}
+use Rattle.sv_model.proofs.Entries.{some}
+use Rattle.sv_model.proofs.Metas.{one-meta}
 use Rattle.sv_laws.proofs.Kept.{sound-kept}
-use Rattle.sv_laws.proofs.Metas.{one-meta}
 use Rattle.sv_laws.proofs.Needs.{few-live, reaches, unnamed}
 use Rattle.sv_laws.proofs.OpenFamilies.{member, says}
 use Rattle.sv_objects.specs.declared.bodies.Body.{Body}

@@ -15,7 +15,7 @@ use Rattle.sv_model.specs.Places.{IsLeastFree, cell_of, place_of}
 use Rattle.sv_model.specs.Registers.{entry}
 use Rattle.sv_files.specs.Calls.{opened}
 use Rattle.sv_laws.specs.Installs.{live_super}
-use Rattle.sv_laws.proofs.Items.{get_one}
+use Rattle.sv_model.proofs.Entries.{get_one}
 use Rattle.sv_laws.proofs.Opened.{first-sound}
 use Rattle.sv_objects.specs.declared.bodies.Body.{Body}
 use Rattle.sv_objects.specs.declared.objects.Objects.{Objects}

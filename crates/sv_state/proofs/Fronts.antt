@@ -8,7 +8,7 @@ use Rattle.sv_model.specs.Described.{MembersJoin}
 use Rattle.sv_model.specs.Lists.{Every, In}
 use Rattle.sv_model.specs.Registers.{entry}
 use Rattle.sv_laws.specs.NewCurrents.{IsParted}
-use Rattle.sv_laws.proofs.Items.{every_none, in-cons, in-none, some}
+use Rattle.sv_model.proofs.Entries.{every_none, in-cons, in-none, some}
 use Rattle.sv_state.specs.Finishing.{HasFront}
 
 -- one more member at the front

@@ -20,7 +20,7 @@ use Rattle.sv_family.specs.Calls.{IsChanged, as_set}
 use Rattle.sv_laws.specs.Changes.{option_set}
 use Rattle.sv_laws.specs.Installs.{IsOpen, live_super}
 use Rattle.sv_laws.specs.NewCurrents.{IsOptionSet}
-use Rattle.sv_laws.proofs.Items.{some}
+use Rattle.sv_model.proofs.Entries.{some}
 use Rattle.sv_laws.proofs.Kept.{sound-kept}
 use Rattle.sv_objects.specs.declared.bodies.Body.{Body}
 use Rattle.sv_objects.specs.declared.bodies.Held.{Held}

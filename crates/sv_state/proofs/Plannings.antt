@@ -13,7 +13,7 @@ use Rattle.sv_model.specs.Journal.{of_family}
 use Rattle.sv_model.specs.Refusals.{IsDue}
 use Rattle.sv_model.specs.Steady.{Sound}
 use Rattle.sv_family.specs.Refused.{change_refusal}
-use Rattle.sv_laws.proofs.Items.{some}
+use Rattle.sv_model.proofs.Entries.{some}
 use Rattle.sv_laws.proofs.OpenFamilies.{ends-at, says}
 use Rattle.sv_objects.specs.declared.bodies.Body.{Body}
 use Rattle.sv_state.specs.declared.planning.Plan.TheVariants.{Add, Switch}
@@ -22,6 +22,7 @@ use Rattle.sv_state.specs.Planning.{compact_refusal, IsCellIf, IsPlanOf, MeantAt
 use Rattle.sv_state.specs.Refs.{IsBodyOf}
 use Rattle.sv_state.proofs.Finishes.{list-paired}
 use Rattle.sv_state.proofs.OptionSets.{own-it, own-open}
+use Rattle.sv_model.proofs.Basics.{none_some}
 
 pub due-exactly : (due : Option Refusal) (e : Refusal) → due ≡ Some e → IsDue due e
 due-exactly due refusal.OutOfMemory h = tt
@@ -30,10 +31,7 @@ due-exactly due e h = h
 -- only want of memory comes where nothing is due
 pub only-memory : (d due : Option Refusal) (e : Refusal) → d ≡ None → IsDue d e → IsDue due e
 only-memory d due refusal.OutOfMemory h w = tt
-only-memory d due e h w = absurd (none_some (sym h ∙ w))
-  where
-    none_some : {e : Refusal} → None ≡ Some e → ⊥
-    none_some h = absurd (cc)
+only-memory d due e h w = absurd (none_some e (sym h ∙ w))
 
 pub told-so : {T : Type 0} (b : Books) (lane : ℕ) (name : List ℕ) (fault : MeantAt b lane name → Option Refusal) (is : MeantAt b lane name → T → Type 0) (e : Refusal) → change_refusal b.families lane name ≡ Some e
     → Planned {T = T} b lane name fault is (Err e)

@@ -13,7 +13,7 @@ use Rattle.sv_model.specs.Registers.{entry}
 use Rattle.sv_model.specs.Steady.{IsCurrent}
 use Rattle.sv_model.proofs.Registers.{entry-new}
 use Rattle.sv_laws.specs.Installs.{live_super}
-use Rattle.sv_laws.proofs.Items.{some}
+use Rattle.sv_model.proofs.Entries.{some}
 use Rattle.sv_objects.specs.declared.bodies.Body.{Body}
 use Rattle.sv_state.specs.Refs.{AreFrozenAt, AreKept, IsBodyOf, IsFrozenAt, IsKept, IsRefOf}
 

@@ -15,7 +15,7 @@ use Rattle.sv_model.specs.Steady.{Sound}
 use Rattle.sv_objects.specs.declared.bodies.Body.{Body}
 use Rattle.sv_objects.specs.Makings.{IsCellOf}
 use Rattle.sv_objects.specs.Shown.{shown}
-use Rattle.sv_laws.proofs.Items.{in-suc}
+use Rattle.sv_model.proofs.Entries.{in-suc}
 use Rattle.sv_state.specs.Refs.{AreFrozenAt, IsKept, IsRefOf, IsState}
 
 pub cell-stays : (M N : List Memtable) → GoesOn KeepsMemtable M N → (m cell : ℕ) → IsCellOf M m cell → IsCellOf N m cell

@@ -18,7 +18,7 @@ use Rattle.sv_model.proofs.Registers.{entry-new, goes-push}
 use Rattle.sv_laws.specs.Changes.{switched, written}
 use Rattle.sv_laws.specs.Installs.{IsOpen, live_super}
 use Rattle.sv_laws.specs.NewCurrents.{IsSwitched}
-use Rattle.sv_laws.proofs.Items.{some}
+use Rattle.sv_model.proofs.Entries.{some}
 use Rattle.sv_laws.proofs.Kept.{sound-kept}
 use Rattle.sv_laws.proofs.OpenFamilies.{of_f, says}
 use Rattle.sv_objects.specs.declared.bodies.Body.{Body}

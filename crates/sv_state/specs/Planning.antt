@@ -25,6 +25,7 @@ use Rattle.sv_registry.specs.Calls.{full_refusal, make_refusal}
 use Rattle.sv_state.specs.declared.planning.Plan.{Plan}
 use Rattle.sv_state.specs.declared.planning.Plan.TheVariants.{Add, Switch}
 use Rattle.sv_state.specs.declared.planning.FlushPlan.{FlushPlan}
+use Rattle.sv_model.specs.declared.limits.TheConstants.{MAX_SUPERS}
 
 -- The family that the lane means by the name is not dropped, and this is its current with its list and its Version.
 pub record MeantAt (b : Books) (lane : ℕ) (name : List ℕ) : Type 0 where
@@ -92,7 +93,7 @@ abbrev pub nothing_refusal : ℕ → ℕ → Option Refusal
 nothing_refusal rows members = cond ((rows == 0) && (members == 0)) (Some refusal.NothingToFlush) None
 
 abbrev pub all_made_refusal : List SuperVersion → Option Refusal
-all_made_refusal supers = cond (nat_le 1048576 (length supers)) (Some refusal.RegisterFull) None
+all_made_refusal supers = cond (nat_le MAX_SUPERS (length supers)) (Some refusal.RegisterFull) None
 
 abbrev pub flush_due : FileRegister → ℕ → List SuperVersion → List Memtable → ℕ → ℕ → Option Refusal
 flush_due files family supers memtables rows members =

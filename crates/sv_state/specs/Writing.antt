@@ -13,6 +13,7 @@ use Rattle.sv_laws.specs.Installs.{IsOpen}
 use Rattle.sv_state.specs.declared.installs.Install.{Install}
 use Rattle.sv_state.specs.Refs.{IsKept}
 use Rattle.sv_state.specs.Seen.{StateSeen}
+use Rattle.sv_model.specs.declared.limits.TheConstants.{MAX_ROWS, MAX_WRITES}
 
 abbrev pub write_of : ℕ → ℕ → ℕ → Row → Write
 write_of lane family mem row = record { family = family; key = row.key; op = row.op; mem = mem; lane = lane }
@@ -21,11 +22,11 @@ write_of lane family mem row = record { family = family; key = row.key; op = row
 pub record CanWrite (s : StateSeen) (lane family : ℕ) : Type 0 where
   pub lane_is : lane < 32
   pub room : 0 < s.spare
-  pub few : length s.books.journal < 262144
+  pub few : length s.books.journal < MAX_WRITES
   pub serial : ℕ
   pub it : SuperVersion
   pub is_open : IsOpen s.books family serial it
-  pub few_rows : length (borne_by it.descriptor.active s.books.journal) < 65536
+  pub few_rows : length (borne_by it.descriptor.active s.books.journal) < MAX_ROWS
 
 -- The active memtable of the family's current has a row, and these are its rows.
 pub record CanSwitch (b : Books) (family : ℕ) (frozen : Cell) : Type 0 where

@@ -20,8 +20,10 @@ use crate::state::State;
 use std::alloc::Global;
 use sv_cells::MemtableRegister;
 use sv_files::Settled;
+use sv_imm::MAX_LISTS;
 use sv_model::{FamilyId, FileMeta, MemId, Refusal, SvRef};
 use sv_objects::{Body, Held, Objects};
+use sv_version::MAX_VERSIONS;
 
 impl State {
     /// Ends the family's flush: the file is the last of a new Version, and a new list is without just the memtables that
@@ -110,9 +112,9 @@ fn flushed(
     requires live_version { IsLiveVersion objects.old.versions body.now.descriptor.version }
     requires joins { (v : Version) → entry objects.old.versions body.now.descriptor.version ≡ Some v → FilesJoin 0 v.files file.from }
     requires unnamed { Has (HasFile file.number) objects.old.versions → ⊥ }
-    requires few_versions { length objects.old.versions < 4294967295 }
+    requires few_versions { length objects.old.versions < MAX_VERSIONS }
     requires live { IsLiveList objects.old.lists body.now.descriptor.list }
-    requires few_lists { length objects.old.lists < 4294967295 }
+    requires few_lists { length objects.old.lists < MAX_LISTS }
     requires short { (l : MemtableList) → entry objects.old.lists body.now.descriptor.list ≡ Some l → length l.members ≤ 64 }
     requires paired { (l : MemtableList) → entry objects.old.lists body.now.descriptor.list ≡ Some l → length body.now.frozen ≡ length l.members }
     ensures made { IfOk result (λ r. BodyFlushed objects.old body.now file objects.new r.pack r.body.value) }
@@ -172,7 +174,7 @@ fn compacted(
     requires begins { file.from ≡ 0 }
     requires covers { (v : Version) → entry objects.old.versions body.now.descriptor.version ≡ Some v → FilesJoin 0 v.files file.to }
     requires unnamed { Has (HasFile file.number) objects.old.versions → ⊥ }
-    requires few_versions { length objects.old.versions < 4294967295 }
+    requires few_versions { length objects.old.versions < MAX_VERSIONS }
     ensures made { IfOk result (λ r. BodyCompacted objects.old body.now file objects.new r.pack r.body.value) }
     ensures refused { Refuses (make_refusal objects.old.supers) result }
     ensures kept { OnErr result (objects.new ≡ objects.old) }

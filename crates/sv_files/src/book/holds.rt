@@ -3,8 +3,8 @@ ghost use Rattle.std.specs.Prelude.{◌≡◌, ◌<◌, ◌+◌, ◌-◌, IfOk, 
 ghost use Rattle.sv_model.specs.Refusals.{RefusesExactly};
 ghost use Rattle.sv_files.specs.Calls.{hold_refusal, unhold_refusal, with_hold};
 
-use super::{FileBook, MAX_HOLDS};
-use sv_model::Refusal;
+use super::FileBook;
+use sv_model::{MAX_HOLDS, Refusal};
 
 impl FileBook {
     /// How many holds stand, over all lanes: at most 8,160. Takes no memory.

@@ -2,7 +2,7 @@
 ghost use Rattle.std.specs.Prelude.{◌≡◌};
 ghost use Rattle.sv_script.specs.Numbers.{lane_of, number_of, with_digit};
 
-use crate::scripts::MAX_LANES;
+use sv_model::MAX_LANES;
 
 // The greatest number of digits of a number.
 const MAX_DIGITS: usize = 20;

@@ -7,7 +7,7 @@ use Rattle.sv_model.specs.Places.{gone_memtable}
 use Rattle.sv_model.specs.Registers.{entry, change}
 use Rattle.sv_model.proofs.Registers.{total-change, total_entry}
 use Rattle.sv_laws.specs.Midst.{Midst}
-use Rattle.sv_laws.proofs.Items.{some}
+use Rattle.sv_model.proofs.Entries.{some}
 use Rattle.sv_laws.proofs.MidstLaws.{midst-ended, midst-gone, midst-named}
 use Rattle.sv_objects.proofs.cleanup.end_unnamed.Goals as goal
 

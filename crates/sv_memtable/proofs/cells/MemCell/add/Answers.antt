@@ -1,7 +1,7 @@
 -- A row is added, and its number noted.
 use Rattle.std.proofs.Common.{◌≡◌, ◌<◌, ◌++◌, ◌∷◌, [], List, length, sym, ap, subst, arith}
 use Rattle.sv_model.specs.declared.writes.Row.{Row}
-use Rattle.sv_memtable.specs.declared.cells.TheConstants.{MAX_ROWS}
+use Rattle.sv_model.specs.declared.limits.TheConstants.{MAX_ROWS}
 use Rattle.sv_memtable.specs.Index.{IsIndexed}
 use Rattle.sv_memtable.proofs.Indexing.{indexed-push, indexed-same}
 use Rattle.sv_memtable.proofs.cells.MemCell.add.Goals as goal

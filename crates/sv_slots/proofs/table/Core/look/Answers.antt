@@ -1,5 +1,6 @@
 use Rattle.std.proofs.Common.{None, Some, ap, arith, refl, subst, ℕ, ◌<◌, ◌∙◌}
-use Rattle.sv_rule.specs.Sums.{at, put}
+use Rattle.sv_rule.specs.Sums.{put}
+use Rattle.sv_model.specs.Lists.{at}
 use Rattle.sv_rule.specs.Table.{slot_of}
 use Rattle.sv_rule.specs.Views.{away}
 use Rattle.sv_slots.specs.Borrows.{IsLooked, word_of}

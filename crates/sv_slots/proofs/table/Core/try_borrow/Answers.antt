@@ -1,5 +1,5 @@
 use Rattle.std.proofs.Common.{ap, arith}
-use Rattle.sv_rule.specs.Sums.{at}
+use Rattle.sv_model.specs.Lists.{at}
 use Rattle.sv_slots.proofs.Carrying.{carries_away, carries_few, carries_taken, carry, lane_stands, missed_parts, seated}
 use Rattle.sv_slots.proofs.table.Core.try_borrow.Goals as goal
 

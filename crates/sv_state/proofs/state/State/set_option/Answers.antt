@@ -10,7 +10,7 @@ use Rattle.sv_family.specs.Calls.{with_option}
 use Rattle.sv_laws.specs.Installs.{IsOpen}
 use Rattle.sv_laws.specs.NewCurrents.{IsOptionSet}
 use Rattle.sv_laws.proofs.Growing.{get_within}
-use Rattle.sv_laws.proofs.Items.{some}
+use Rattle.sv_model.proofs.Entries.{some}
 use Rattle.sv_objects.specs.declared.bodies.Body.{Body}
 use Rattle.sv_objects.specs.declared.objects.Objects.{Objects}
 use Rattle.sv_objects.specs.Cleanups.{with_objects}

@@ -1,4 +1,4 @@
--- What the rule reads in the books: SuperVersions by serial and by pack, the current of each family, and how far its
+-- What lanes read in the books: SuperVersions by serial and by pack, the current of each family, and how far its
 -- writes go.
 use Rattle.std.specs.Prelude.{◌≡◌, ℕ, ◌+◌, ◌*◌, ◌/◌, ◌%◌, ◌==◌, cond, true, List, Option, Some, None, length, slice_get}
 use Rattle.sv_model.specs.declared.writes.Write.{Write}

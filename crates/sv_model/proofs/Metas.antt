@@ -10,10 +10,9 @@ use Rattle.sv_model.specs.Reads.{IsCapturedFor}
 use Rattle.sv_model.specs.Named.{numbers_of}
 use Rattle.sv_model.specs.Numbers.{NumbersStand, registered, captured_numbers}
 use Rattle.sv_model.proofs.Lists.{at_total, same_is, times_in}
-use Rattle.sv_model.proofs.Registers.{goes-change, length-change}
+use Rattle.sv_model.proofs.Registers.{goes-change, length-change, goes-rest}
 use Rattle.sv_model.proofs.Freed.{distinct_times}
-use Rattle.sv_laws.proofs.Items.{some, in-suc}
-use Rattle.sv_laws.proofs.Registers.{goes-rest}
+use Rattle.sv_model.proofs.Entries.{some, in-suc}
 
 -- what is captured for a family stays so
 pub captured-goes : (N K : List RegisteredFile) → GoesOn KeepsNumber N K → (f n : ℕ) → Has (IsCapturedFor f n) N

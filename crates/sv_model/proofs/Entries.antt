@@ -68,9 +68,6 @@ in_append m (x ∷ xs) ys i =
     (λ j. ⊎_elim (λ o. inl (in-suc m x xs o)) (λ o. inr o) (in_append m xs ys j))
     (in-cons m x (xs ++ ys) i)
 
-pub none_some : {A : Type 0} (n : A) → None ≡ Some n → ⊥
-none_some n e = absurd (cc)
-
 -- ---- what is so of some record, after a push
 module _ {A : Type 0} (P : A → Type 0) (l : List A) (y : A) where
   pub has-old : Has P l → Has P (l ++ y ∷ [])

@@ -5,7 +5,7 @@ use Rattle.sv_model.specs.Books.{Books}
 use Rattle.sv_model.specs.Families.{is_retired}
 use Rattle.sv_model.specs.Journal.{borne_by}
 use Rattle.sv_model.specs.Lawful.{Lawful}
-use Rattle.sv_model.specs.Lists.{Every, In, times}
+use Rattle.sv_model.specs.Lists.{Every, In, times, at}
 use Rattle.sv_model.specs.Numbers.{having, is_grabbed, is_live, is_pending}
 use Rattle.sv_model.specs.Registers.{GoesOn, entry}
 use Rattle.sv_model.specs.Summaries.{is_gone}
@@ -14,10 +14,8 @@ use Rattle.sv_model.specs.declared.records.Memtable.{Memtable}
 use Rattle.sv_model.specs.declared.records.SuperVersion.{SuperVersion}
 use Rattle.sv_model.specs.declared.records.Top.{Top}
 use Rattle.sv_model.specs.declared.writes.Write.{Write}
-use Rattle.sv_rule.specs.Sums.{at}
-use Rattle.sv_rule.specs.Supers.{IsSerialOf, current_of}
-use Rattle.sv_rule.specs.Tasks.{gone_snapshot, grabs, handle, has_job, has_output, marks_of}
-use Rattle.sv_rule.specs.Views.{Mark, Output, Task}
+use Rattle.sv_model.specs.Supers.{IsSerialOf, current_of}
+use Rattle.sv_model.specs.Tasks.{gone_snapshot, grabs, handle, has_job, has_output, marks_of, Mark, Output, Task}
 
 -- ---- what the books have of the lane's own
 
