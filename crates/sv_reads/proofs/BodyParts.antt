@@ -1,8 +1,8 @@
 -- What the parts of a SuperVersion have, by the books: so that what is found in them, part by part, is what the family's
 -- writes up to the cut leave.
 use Rattle.std.proofs.Common.{◌≡◌, ◌≤◌, ◌<◌, ◌+◌, ◌-◌, ℕ, zero, suc, min, true, List, [], ◌∷◌, ◌++◌, length, length-append, take, drop, slice_get, Option, Some, None, inl, inr, refl, sym, ap, ◌∙◌, arith}
-use Rattle.std.specs.Prelude.{option_and_then}
-use Rattle.std.proofs.lemmas.List.{length-map, take_all}
+use Rattle.std.specs.Option.{option_or}
+use Rattle.std.proofs.lemmas.List.{length-map}
 use Rattle.sv_model.specs.declared.records.FileMeta.{FileMeta}
 use Rattle.sv_model.specs.declared.records.Memtable.{Memtable}
 use Rattle.sv_model.specs.declared.records.Version.{Version}
@@ -15,17 +15,19 @@ use Rattle.sv_model.specs.Described.{BearsFrom, FilesStand, IsRange, MembersJoin
 use Rattle.sv_model.specs.Files.{Files}
 use Rattle.sv_model.specs.Flat.{range_of}
 use Rattle.sv_model.specs.HeldFiles.{HoldsText, LiveAreHeld}
-use Rattle.sv_model.specs.Journal.{borne_by, look, of_family, row_of, rows_of, value_of}
+use Rattle.sv_model.specs.Journal.{borne_by, look, newest_op, of_family, row_of, rows_of}
 use Rattle.sv_model.specs.Lawful.{Lawful}
 use Rattle.sv_model.specs.Lists.{Every, In}
 use Rattle.sv_model.specs.Named.{numbers_of}
 use Rattle.sv_model.specs.Ranges.{FilesJoin}
 use Rattle.sv_model.specs.Registers.{entry, EachEntry}
 use Rattle.sv_model.specs.Snapshots.{IsClear}
-use Rattle.sv_model.proofs.FlatRanges.{range_none, ranges_join}
+use Rattle.sv_model.proofs.FlatRanges.{range_none, newest_op_append}
+use Rattle.sv_model.proofs.Ranges.{ranges_join}
 use Rattle.sv_reads.specs.Bodies.{HaveRows}
 use Rattle.sv_reads.specs.Files.{Serve}
 use Rattle.sv_reads.specs.Parts.{FindsAfter, FindsBefore, chosen, rows_in}
+use Rattle.sv_reads.proofs.PartLooks.{part_upto}
 
 -- ---- memtables
 
@@ -149,3 +151,46 @@ module _ (journal : List Write) (family reach base end : ℕ) (key : List ℕ) (
       ∙ active.looks journal family end le active_is
       ∙ ap (chosen newest)
       (from_first ∙ ap (λ (n : ℕ). chosen newer (look journal family (min cut n) key)) first ∙ ap (chosen newer) files)
+
+-- no write comes after the one place and up to one before it
+past : (from to : ℕ) (ws : List Write) → to ≤ from → drop from (take to ws) ≡ no_writes
+past from zero ws le = drop_none from
+  where
+    drop_none : (n : ℕ) → drop n no_writes ≡ no_writes
+    drop_none zero = refl
+    drop_none (suc n) = refl
+past zero (suc to) ws le = absurd (omega arith)
+past (suc from) (suc to) [] le = refl
+past (suc from) (suc to) (w ∷ ws) le = past from to ws (omega arith)
+
+pub range_past : (journal : List Write) (family from to : ℕ) → to ≤ from → range_of journal family from to ≡ []
+range_past journal family from to le = ap rows_of (past from to (of_family family journal) le)
+
+-- What is found in the active memtable, or else in the frozen ones, is the newest of the writes after those that the
+-- files cover, up to the cut: so a value that is found there needs no file.
+pub parts_unread : (journal : List Write) (family reach base end : ℕ) (key : List ℕ) (cut : ℕ) (rows : List Row)
+    (frozen : List (ℕ × Cell)) (newest newer : Option Op) → reach ≤ cut → cut ≤ end → base ≤ end
+    → range_of journal family base end ≡ rows → FindsAfter base rows key cut newest
+    → range_of journal family reach base ≡ rows_in frozen → reach + length (rows_in frozen) ≡ base
+    → FindsBefore base frozen key cut newer
+    → newest_op key (range_of journal family reach cut) ≡ option_or newest newer
+parts_unread journal family reach base end key cut rows frozen newest newer above within le active_is active frozen_are sum waiting =
+    let before = waiting (omega (arith, sum)) in
+    let first : base - length (rows_in frozen) ≡ reach = omega (arith, sum) in
+    let low : min cut reach ≡ reach = omega (arith, above) in
+    let high : min cut end ≡ cut = omega (arith, within) in
+    let mid = min cut base in
+    let some : reach ≤ base = omega (arith, sum) in
+    let here : newest_op key (range_of journal family mid cut) ≡ newest =
+    sym (active.newest
+    ∙ ap (λ (l : List Row). newest_op key (take (cut - base) l)) (sym active_is)
+    ∙ ap (newest_op key) (part_upto journal family base cut end le)
+    ∙ ap (λ (n : ℕ). newest_op key (range_of journal family mid n)) high) in
+    let there : newest_op key (range_of journal family reach mid) ≡ newer =
+    sym (before.newest
+    ∙ (λ i. newest_op key (take (cut - first i) (sym frozen_are i)))
+    ∙ ap (newest_op key) (part_upto journal family reach cut base some)
+    ∙ ap (λ (n : ℕ). newest_op key (range_of journal family n mid)) low) in
+    ap (newest_op key) (sym (ranges_join journal family reach mid cut (omega (arith, sum, above)) (omega arith)))
+    ∙ newest_op_append key (range_of journal family reach mid) (range_of journal family mid cut)
+    ∙ (λ i. option_or (here i) (there i))

@@ -8,7 +8,8 @@ use Rattle.sv_model.specs.declared.writes.Row.{Row}
 use Rattle.sv_model.specs.declared.writes.Op.{Op}
 use Rattle.sv_model.specs.Flat.{range_of}
 use Rattle.sv_model.specs.Journal.{look, newest_op, value_of}
-use Rattle.sv_model.proofs.FlatRanges.{range_none, range_front, range_whole, ranges_join, newest_op_append}
+use Rattle.sv_model.proofs.FlatRanges.{range_none, range_front, range_whole, newest_op_append}
+use Rattle.sv_model.proofs.Ranges.{ranges_join}
 use Rattle.sv_reads.specs.Parts.{chosen, FindsAfter}
 
 -- ---- the writes of a range up to a cut
