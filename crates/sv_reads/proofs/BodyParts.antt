@@ -1,6 +1,6 @@
 -- What the parts of a SuperVersion have, by the books: so that what is found in them, part by part, is what the family's
 -- writes up to the cut leave.
-use Rattle.std.proofs.Common.{◌≡◌, ◌≤◌, ◌<◌, ◌+◌, ◌-◌, ℕ, zero, suc, min, true, List, [], ◌∷◌, ◌++◌, length, length-append, take, drop, slice_get, Option, Some, None, inl, inr, refl, sym, ap, ◌∙◌, arith}
+use Rattle.std.proofs.Common.{◌≡◌, ◌≤◌, ◌<◌, ◌+◌, ◌-◌, ℕ, zero, suc, min, true, List, [], ◌∷◌, ◌++◌, length, length-append, take, drop, slice_get, Option, Some, inl, inr, refl, sym, ap, ◌∙◌, arith}
 use Rattle.std.specs.Option.{option_or}
 use Rattle.std.proofs.lemmas.List.{length-map}
 use Rattle.sv_model.specs.declared.records.FileMeta.{FileMeta}
@@ -14,7 +14,7 @@ use Rattle.sv_model.specs.Cells.{Cell}
 use Rattle.sv_model.specs.Described.{BearsFrom, FilesStand, IsRange, MembersJoin}
 use Rattle.sv_model.specs.Files.{Files}
 use Rattle.sv_model.specs.Flat.{range_of}
-use Rattle.sv_model.specs.HeldFiles.{HoldsText, LiveAreHeld}
+use Rattle.sv_model.specs.HeldFiles.{LiveAreHeld}
 use Rattle.sv_model.specs.Journal.{borne_by, look, newest_op, of_family, row_of, rows_of}
 use Rattle.sv_model.specs.Lawful.{Lawful}
 use Rattle.sv_model.specs.Lists.{Every, In}

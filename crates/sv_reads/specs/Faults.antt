@@ -1,5 +1,5 @@
 -- What a call that reads files says of the directory's count of faults.
-use Rattle.std.specs.Prelude.{◌≤◌, ℕ, Result, Ok, Err}
+use Rattle.std.specs.Prelude.{◌≤◌, ℕ, Result, Err}
 use Rattle.sv_model.specs.declared.refusals.Refusal.{Refusal}
 use Rattle.sv_model.specs.declared.refusals.Refusal.TheVariants as refusal
 use Rattle.sv_model.specs.Faults.{RoseBy}

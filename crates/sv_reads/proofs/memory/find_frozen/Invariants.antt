@@ -1,6 +1,5 @@
 -- No frozen memtable after those that are left has a row of the key at or below the cut, and theirs end before it.
 use Rattle.std.proofs.Common.{◌≡◌, ◌≤◌, ◌-◌, ◌++◌, ℕ, List, None, length, take}
-use Rattle.std.specs.declared.sync.Arc.{Arc}
 use Rattle.sv_model.specs.Cells.{Cell}
 use Rattle.sv_model.specs.Journal.{newest_op}
 use Rattle.sv_objects.specs.Shown.{shown}
