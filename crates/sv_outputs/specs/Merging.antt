@@ -12,8 +12,8 @@ use Rattle.sv_model.specs.Snapshots.{IsClear}
 use Rattle.sv_model.specs.TableText.{HasText, table_text}
 use Rattle.sv_merge.specs.Merging.{AreFlats, AreWellFormed, EachClear, IsMergeOf, Joined, NoneLast}
 
--- The file is to have what the files have: their ranges join, nothing lies below none but the first, and each cut of the
--- file is one of those of the file in which it lies. Nothing lies below it.
+-- The file is to have what the files have: their ranges join, nothing lies below none but the first, and each cut of
+-- the file is one of those of the file in which it lies. Nothing lies below it.
 pub record IsMergeDue (files : List FileMeta) (file : FileMeta) : Type 0 where
   pub some : 1 ≤ length files
   pub joins : FilesJoin file.from files file.to

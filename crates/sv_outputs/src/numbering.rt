@@ -29,7 +29,7 @@ fn append_rows(
     Ok(())
 }
 
-// Copies of the rows of all the memtables, the oldest first, each with the number of its write. The first is `from + 1`.
+// Copies of the rows of all the memtables, the oldest first, each with the number of its write, from `from + 1` on.
 pub(crate) fn all_rows(
     alloc: Global,
     frozen: &[(u8, Arc<Frozen>)],
