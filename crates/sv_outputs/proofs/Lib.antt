@@ -1,5 +1,7 @@
+mod DueFiles
 mod FileReads
 pub mod FlushTexts
+pub mod MembersRows
 pub mod MergeFlats
 mod MergeTables
 mod NumberedRows

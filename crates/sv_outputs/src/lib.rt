@@ -4,6 +4,7 @@
 
 mod compactions;
 mod flushes;
+mod laws;
 mod merging;
 mod numbering;
 mod puts;
@@ -11,3 +12,4 @@ mod tables;
 
 pub use compactions::write_compaction;
 pub use flushes::write_flush;
+pub use laws::{planned_flush_is_due, planned_merge_is_due};
