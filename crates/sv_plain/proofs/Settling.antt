@@ -26,6 +26,7 @@ use Rattle.sv_plain.specs.Stands.{FilesStand, IsKept, Stands}
 use Rattle.sv_plain.specs.Store.{top_of}
 use Rattle.sv_plain.proofs.Going.{continues_itself, families_go, list_itself, memtable_itself, number_itself, super_itself, tops_go, version_itself}
 use Rattle.sv_plain.proofs.Lasts.{change-last}
+use Rattle.sv_plain.proofs.LiveNumbers.{pends}
 
 -- the number that a capture registers
 abbrev pub number_of : ℕ → FileStatus → RegisteredFile
@@ -94,14 +95,6 @@ pub settled_as : (number : ℕ) (live : Bool) (old new : FileRegister) → Settl
 settled_as number live old new s = record { family = s.family; numbers = s.settled.numbers; of = s.settled.of; was = s.settled.was; rest = s.settled.rest }
 
 -- the captured number is Pending
-pub pends : (before : FileRegister) (number : ℕ) → number ≡ before.next → IsRegistered (captured_for before 0).numbers number Pending
-pends before number e = (
-  length before.numbers + 1,
-  number_of before.next Pending,
-  entry-new before.numbers (number_of before.next Pending) (length before.numbers + 1) refl,
-  record { number_is = sym e; status_is = refl },
-)
-
 pub pends_output : (p : Parts) (file : FileMeta) → Outputs p file → IsRegistered p.files.numbers file.number Pending
 pends_output p file o = subst (λ (r : FileRegister). IsRegistered r.numbers file.number Pending) (sym o.files_are) (pends o.before file.number o.number)
 

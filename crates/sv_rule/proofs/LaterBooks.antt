@@ -14,10 +14,11 @@ use Rattle.sv_model.specs.declared.records.Descriptor.{Descriptor}
 use Rattle.sv_model.specs.declared.records.Memtable.{Memtable}
 use Rattle.sv_model.specs.declared.records.SuperVersion.{SuperVersion}
 use Rattle.sv_model.specs.declared.writes.Write.{Write}
-use Rattle.sv_model.proofs.Registers.{entry_le}
+use Rattle.sv_model.proofs.Registers.{entry_le, entry-some}
 use Rattle.sv_rule.specs.Numbers.{IsBased}
 use Rattle.sv_model.specs.Supers.{IsPackOf, IsSerialOf, end_at, end_in, writes}
 use Rattle.sv_rule.proofs.CurrentLaws.{some-at}
+use Rattle.sv_model.proofs.PassedRows.{continues-filter, continues-length}
 
 -- what stood in front stands there still
 get-old : {A : Type 0} (l m : List A) (n : ℕ) (x : A) → slice_get l n ≡ Some x → slice_get (l ++ m) n ≡ Some x

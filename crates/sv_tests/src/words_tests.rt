@@ -1,11 +1,12 @@
 // The words that the program takes.
-use crate::directories::empty_dir;
-use crate::runs::{EMPTY_REPORT, expect_run, expect_text, run_over, sink_of, source_of, words_of};
 use std::alloc::Global;
 use std::process::Abort;
 use std::test::Fail;
 use sv_run::{Status, dir_word, run};
 use sv_script::{BadKind, BadLine};
+use sv_test_kit::{
+    EMPTY_REPORT, empty_dir, expect_run, expect_text, run_over, sink_of, source_of, words_of,
+};
 
 const USAGE: &str = "usage: svrun run [--dir PATH]\n       svrun trial N\n       svrun --help\n";
 
