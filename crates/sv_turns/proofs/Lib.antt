@@ -1,0 +1,14 @@
+pub mod Accounts
+pub mod Cleanups
+pub mod Counting
+pub mod Currents
+pub mod Families
+pub mod Found
+pub mod Frames
+pub mod Holds
+pub mod Jobs
+pub mod Listings
+pub mod Memtables
+pub mod Orders
+pub mod Outputs
+pub mod Writes
