@@ -1,6 +1,6 @@
 -- Where nothing is wrong with the words and the script and nothing fails, the lines are answered.
 use Rattle.std.proofs.Common.{◌≡◌, ◌≤◌, ◌+◌, inl, inr, ℕ, List, [], ◌∷◌, length, Option, Some, None, Result, Ok, Err, refl, sym, ◌∙◌, subst, arith}
-use Rattle.std.specs.Prelude.{IsSomeAnd, IfSome}
+use Rattle.std.specs.Prelude.{IsSome, IsSomeAnd, IfSome, codes}
 use Rattle.sv_model.specs.declared.End.{End}
 use Rattle.sv_model.specs.declared.End.TheVariants as end
 use Rattle.sv_model.specs.Faults.{Rose, RoseBy}
@@ -10,8 +10,9 @@ use Rattle.sv_script.specs.Script.{script_of}
 use Rattle.sv_run.specs.declared.outcomes.Done.{Done}
 use Rattle.sv_run.specs.declared.outcomes.Status.{Status}
 use Rattle.sv_run.specs.declared.outcomes.Status.TheVariants as status
-use Rattle.sv_run.specs.Ends.{IsScript, IsBad, IsDoneAs, Ends, Completes, faults_at_close, left_of}
+use Rattle.sv_run.specs.Ends.{IsScript, IsBad, IsDoneAs, Ends, Completes, Helps, faults_at_close, left_of}
 use Rattle.sv_run.specs.Handed.{Input, Directory, Output}
+use Rattle.sv_run.specs.RunWords.{AreRun, IsHelp, dir_word}
 use Rattle.sv_run.specs.Transfers.{IsLong}
 
 apart : (r : Result Script BadLine) (s : Script) (b : BadLine) → r ≡ Ok s → r ≡ Err b → ⊥
@@ -47,7 +48,7 @@ closed_refusal i d done h =
 pub completes : (i : Input) (d : Directory) (o : Output) (stands : Option Done) (answer : Status) → Ends i d o stands answer → Completes i d o answer
 completes i d o stands status.Ok e are script holds reads asks writes = inl refl
 completes i d o stands status.OutOfMemory e are script holds reads asks writes = inr refl
-completes i d o None status.Usage e are script holds reads asks writes = absurd (e.0.0 are)
+completes i d o None status.Usage e are script holds reads asks writes = absurd (e.0.0.0 are)
 completes i d o (Some done) status.Usage e are script holds reads asks writes = absurd (e.0.1)
 completes i d o None (status.BadScript bad) e are script holds reads asks writes = absurd (not_bad i.left script bad holds e.0.1.0)
 completes i d o (Some done) (status.BadScript bad) e are script holds reads asks writes = absurd (e.0.1)
@@ -58,3 +59,23 @@ completes i d o (Some done) status.ReadFault e are script holds reads asks write
 completes i d o None status.DirFault e are script holds reads asks writes = absurd (asks e.0.1.rose)
 completes i d o (Some done) status.DirFault e are script holds reads asks writes = absurd (asks (closed_refusal i d done e.0.1))
 completes i d o stands status.WriteFault e are script holds reads asks writes = absurd (writes e.rose)
+
+-- who asks for help asks for no run
+help_runs : (words : List (List ℕ)) → IsHelp words → AreRun words → ⊥
+help_runs words help (inl run) = absurd (let q : codes "--help" ∷ [] ≡ codes "run" ∷ [] = sym help ∙ run in cc)
+help_runs words help (inr path) = subst (λ w. IsSome (dir_word w)) help path
+
+pub helps : (i : Input) (d : Directory) (o : Output) (stands : Option Done) (answer : Status) → Ends i d o stands answer → Helps i o answer
+helps i d o stands status.Ok e help writes = inl refl
+helps i d o stands status.OutOfMemory e help writes = inr refl
+helps i d o None status.Usage e help writes = absurd (e.0.0.1 help)
+helps i d o (Some done) status.Usage e help writes = absurd (help_runs i.words help e.0.0)
+helps i d o None (status.BadScript bad) e help writes = absurd (help_runs i.words help e.0.0)
+helps i d o (Some done) (status.BadScript bad) e help writes = absurd (help_runs i.words help e.0.0)
+helps i d o None status.ScriptTooLong e help writes = absurd (help_runs i.words help e.0.0)
+helps i d o (Some done) status.ScriptTooLong e help writes = absurd (help_runs i.words help e.0.0)
+helps i d o None status.ReadFault e help writes = absurd (help_runs i.words help e.0.0)
+helps i d o (Some done) status.ReadFault e help writes = absurd (help_runs i.words help e.0.0)
+helps i d o None status.DirFault e help writes = absurd (help_runs i.words help e.0.0)
+helps i d o (Some done) status.DirFault e help writes = absurd (help_runs i.words help e.0.0)
+helps i d o stands status.WriteFault e help writes = absurd (writes e.rose)

@@ -27,7 +27,7 @@ short-untouched d h = record { later = omega (arith, h.calm); kept = h.kept }
 
 -- memory may be wanted for any text
 pub follows-memory : (i : Input) (d : Directory) (stands : Option Done) (due : Status) → Follows i d stands due → Follows i d stands status.OutOfMemory
-follows-memory i d None status.Ok f = absurd (f.1)
+follows-memory i d None status.Ok f = short-untouched d f.1
 follows-memory i d None status.Usage f = short-untouched d f.1
 follows-memory i d None (status.BadScript bad) f = short-untouched d f.1.1
 follows-memory i d None status.ScriptTooLong f = short-untouched d f.1.1
@@ -51,6 +51,7 @@ short_due (Some done) text is = inl is
 
 -- words that are taken come to their text
 pub follows-comes : (i : Input) (d : Directory) (stands : Option Done) (due : Status) → AreRun i.words → Comes i d stands due → Follows i d stands due
+follows-comes i d None status.Ok are h = absurd h
 follows-comes i d None status.Usage are h = absurd h
 follows-comes i d None status.OutOfMemory are h = h
 follows-comes i d None due are h = (are, h)

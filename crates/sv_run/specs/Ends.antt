@@ -24,7 +24,7 @@ use Rattle.sv_plain.specs.Closed.{IsClosed}
 use Rattle.sv_model.specs.HeldFiles.{GoneAreAbsent, OthersStay}
 use Rattle.sv_plain.specs.Held.{Both, Holds}
 use Rattle.sv_run.specs.Handed.{Input, Directory, Output, KeepsFiles, IsUntouched}
-use Rattle.sv_run.specs.RunWords.{AreRun}
+use Rattle.sv_run.specs.RunWords.{AreRun, IsHelp}
 use Rattle.sv_run.specs.Transfers.{IsLong, AppendsPart}
 use Rattle.sv_run.specs.declared.outcomes.Status.{Status}
 use Rattle.sv_run.specs.declared.outcomes.Status.TheVariants as status
@@ -116,9 +116,11 @@ Comes i d None status.DirFault = IsShut d
 Comes i d None status.OutOfMemory = IsShort d
 Comes i d stands status = ⊥
 
--- The same of any words: others are refused, and then nothing is read or run. Memory may be wanted for any text.
+-- The same of any words: for help and for words that are refused nothing is read or run. Memory may be wanted for any
+-- text.
 abbrev pub Follows : Input → Directory → Option Done → Status → Type 0
-Follows i d None status.Usage = (AreRun i.words → ⊥) × IsUntouched d
+Follows i d None status.Ok = IsHelp i.words × IsUntouched d
+Follows i d None status.Usage = ((AreRun i.words → ⊥) × (IsHelp i.words → ⊥)) × IsUntouched d
 Follows i d None status.OutOfMemory = IsShort d
 Follows i d stands status = AreRun i.words × Comes i d stands status
 
@@ -137,6 +139,7 @@ abbrev pub IsDueText : Option Done → Status → List ℕ → Type 0
 IsDueText (Some done) status.Ok text = text ≡ report_of done
 IsDueText (Some done) status.DirFault text = text ≡ report_of done
 IsDueText (Some done) status.OutOfMemory text = (text ≡ short_text) ⊎ ((done.end ≡ end.OutOfMemory) × (text ≡ report_of done))
+IsDueText None status.Ok text = text ≡ outcome_text outcome.Usage
 IsDueText stands status.Usage text = text ≡ outcome_text outcome.Usage
 IsDueText stands (status.BadScript bad) text = text ≡ outcome_text (outcome.BadScript bad)
 IsDueText stands status.ScriptTooLong text = text ≡ outcome_text outcome.ScriptTooLong
@@ -170,3 +173,7 @@ abbrev pub Completes : Input → Directory → Output → Status → Type 0
 Completes i d o answer =
     AreRun i.words → (script : Script) → IsSomeAnd i.left (IsScript script) → (Rose i.before i.now → ⊥) → (Rose d.before d.now → ⊥) → (Rose o.before o.now → ⊥)
     → (answer ≡ status.Ok) ⊎ (answer ≡ status.OutOfMemory)
+
+-- Who asks for help gets it where the sink does not fail, unless memory runs out.
+abbrev pub Helps : Input → Output → Status → Type 0
+Helps i o answer = IsHelp i.words → (Rose o.before o.now → ⊥) → (answer ≡ status.Ok) ⊎ (answer ≡ status.OutOfMemory)

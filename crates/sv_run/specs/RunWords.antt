@@ -16,6 +16,10 @@ dir_word (run ∷ joined ∷ []) = cond (bytes_eq run (codes "run")) (joined_pat
 dir_word (run ∷ option ∷ path ∷ []) = cond (bytes_eq run (codes "run") && bytes_eq option (codes "--dir")) (path_of path) None
 dir_word words = None
 
+-- the one word asks for help
+abbrev pub IsHelp : List (List ℕ) → Type 0
+IsHelp words = words ≡ codes "--help" ∷ []
+
 -- the words are `run`, alone or with a path
 abbrev pub AreRun : List (List ℕ) → Type 0
 AreRun words = (words ≡ codes "run" ∷ []) ⊎ IsSome (dir_word words)

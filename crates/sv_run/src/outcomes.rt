@@ -7,7 +7,7 @@ use sv_script::{BadLine, LaneReport};
 #[derive(Clone, Copy, Debug, PartialEq, Eq)]
 pub enum Status {
     /// The script was read to its end, every line was answered, each file that was to go is gone, and the report
-    /// was written whole.
+    /// was written whole. Or help was asked for, and the usage text was written.
     Ok,
     /// The words are none that the program takes.
     Usage,

@@ -1,6 +1,6 @@
 // The top call.
 ghost use Rattle.std.specs.Prelude.{◌≡◌, ◌≤◌, List, Option, ℕ, IfOk, None, Some, map, string_bytes};
-ghost use Rattle.sv_run.specs.Ends.{Completes, Ends, Follows, IsDueText, report_of};
+ghost use Rattle.sv_run.specs.Ends.{Completes, Ends, Follows, Helps, IsDueText, report_of};
 ghost use Rattle.sv_run.specs.Handed.{Directory, Input};
 ghost use Rattle.sv_run.specs.Statuses.{status_at, status_of_failure};
 ghost use Rattle.sv_run.specs.Transfers.{TakesAtMost};
@@ -12,7 +12,7 @@ use crate::outcomes::{Done, Ended, Ran, Status};
 use crate::scripts::read_script;
 use crate::streams::{Sink, Source};
 use crate::transfers::write_all;
-use crate::words::are_run;
+use crate::words::{are_run, is_help};
 use std::alloc::Global;
 use sv_dir::{Dir, DirError};
 use sv_model::{End, OutOfMemory};
@@ -61,6 +61,9 @@ fn outcome<S: Source, D: Dir>(alloc: Global, words: &[String], source: &mut S, d
     ensures reads { S.faults source.old ≤ S.faults source.new }
     ensures dirs { D.faults dir.old ≤ D.faults dir.new }
 {
+    if is_help(words) {
+        return without_done(Status::Ok);
+    }
     if !are_run(words) {
         return without_done(Status::Usage);
     }
@@ -94,7 +97,7 @@ fn text_of(alloc: Global, ended: &Ended) -> Result<Vec<u8>, OutOfMemory>
         (Status::OutOfMemory, Some(done)) if done.end == End::OutOfMemory => {
             return done_text(alloc, done);
         }
-        (Status::Usage, _) => Outcome::Usage,
+        (Status::Ok, None) | (Status::Usage, _) => Outcome::Usage,
         (Status::BadScript(bad), _) => Outcome::BadScript(bad),
         (Status::ScriptTooLong, _) => Outcome::ScriptTooLong,
         (Status::ReadFault, _) => Outcome::ReadFault,
@@ -151,7 +154,8 @@ fn handed_back<D>(ended: Ended, dir: D) -> Ran<D>
 }
 
 /// Runs the script that the source gives over the directory, where the words are `run`, alone or with a path, and
-/// writes the report to the sink; or the text that says why nothing ran. Reads at most 16,777,217 bytes, and lists
+/// writes the report to the sink; or the usage text where the one word is `--help`, and the text that says why nothing
+/// ran else. Reads at most 16,777,217 bytes, and lists
 /// the directory once, after the script was read. Hands the directory back.
 ///
 /// By cases on the status, the contract says what the source had, what stands in the books and in the directory,
@@ -172,6 +176,9 @@ pub fn run<S: Source, K: Sink, D: Dir>(
     // A script is answered where nothing fails.
     ensures complete { Completes (record { words = map string_bytes words.now; left = S.left source.old; before = S.faults source.old; now = S.faults source.new })
         (record { files = D.files dir; later = D.files result.dir; before = D.faults dir; now = D.faults result.dir })
+        (record { old = K.written sink.old; new = K.written sink.new; before = K.faults sink.old; now = K.faults sink.new }) result.status }
+    // Help is given where nothing fails.
+    ensures helps { Helps (record { words = map string_bytes words.now; left = S.left source.old; before = S.faults source.old; now = S.faults source.new })
         (record { old = K.written sink.old; new = K.written sink.new; before = K.faults sink.old; now = K.faults sink.new }) result.status }
     ensures took { TakesAtMost 16777217 (S.left source.old) (S.left source.new) }
     ensures reads { S.faults source.old ≤ S.faults source.new }

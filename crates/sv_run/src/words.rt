@@ -1,6 +1,6 @@
 // The words that the program takes.
 ghost use Rattle.std.specs.Prelude.{◌≡◌, Some, None, ◌∷◌, [], ◌↔◌, IsTrue, MatchOption, map, string_bytes, codes};
-ghost use Rattle.sv_run.specs.RunWords.{AreRun, dir_word as path_in, joined_path as path_after, path_of as path_at};
+ghost use Rattle.sv_run.specs.RunWords.{AreRun, IsHelp, dir_word as path_in, joined_path as path_after, path_of as path_at};
 
 fn path_of(word: &str) -> Option<&str>
     ensures { MatchOption result (path_at word.now ≡ None) (λ path. path_at word.now ≡ Some path.now) }
@@ -41,6 +41,22 @@ pub fn dir_word(words: &[String]) -> Option<&str>
             path_of(path.as_str())
         }
         _ => None,
+    }
+}
+
+fn is_help_word(word: &str) -> bool
+    ensures { IsTrue result ↔ (word.now ≡ codes "--help") }
+{
+    word == "--help"
+}
+
+/// Whether the one word is `--help`.
+pub fn is_help(words: &[String]) -> bool
+    ensures { IsTrue result ↔ IsHelp (map string_bytes words.now) }
+{
+    match words {
+        [word] => is_help_word(word.as_str()),
+        _ => false,
     }
 }
 

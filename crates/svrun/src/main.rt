@@ -2,6 +2,9 @@
 //! report to standard output.
 #![tactic(auto)]
 
+mod hints;
+
+use crate::hints::hint;
 use std::alloc::AllocError;
 use std::env;
 use std::io::ErrorKind;
@@ -38,9 +41,11 @@ fn run_over_folder(
 ) -> Status {
     let mut source = StdSource::new(rt);
     match path.to_string(rt.alloc()) {
-        Ok(path) => {
-            let folder = RealDir::new(rt, rt.alloc(), path);
-            run(rt.alloc(), words, &mut source, folder, sink).status
+        Ok(owned) => {
+            let folder = RealDir::new(rt, rt.alloc(), owned);
+            let ran = run(rt.alloc(), words, &mut source, folder, sink);
+            hint(&rt, ran.status, Some(path), ran.done.is_some());
+            ran.status
         }
         Err(_) => run_short(rt, sink),
     }
@@ -51,7 +56,11 @@ fn run_over_memory(rt: HostRuntime, words: &[String], sink: &mut StdSink<HostRun
     let alloc = rt.alloc();
     let mut source = StdSource::new(rt);
     match MemDir::new(alloc, Vec::new(alloc), Vec::new(alloc)) {
-        Ok(empty) => run(alloc, words, &mut source, empty, sink).status,
+        Ok(empty) => {
+            let status = run(alloc, words, &mut source, empty, sink).status;
+            hint(&rt, status, None, false);
+            status
+        }
         Err(_) => run_short(rt, sink),
     }
 }

@@ -1,0 +1,25 @@
+-- What is found in the bytes of a table can be copied.
+use Rattle.std.proofs.Common.{◌≡◌, ℕ, Bool, true, false, cond, List, [], ◌∷◌, find, Option, Some, sym, ap, subst, ◌∙◌}
+use Rattle.std.specs.Prelude.{option_map}
+use Rattle.std.specs.List.{AllByRecursion}
+use Rattle.sv_model.specs.declared.writes.Kept.{Kept}
+use Rattle.sv_model.specs.declared.writes.Op.{Op}
+use Rattle.sv_model.specs.TableText.{IsStored, IsStoredOp, IsTableFile}
+use Rattle.sv_table.specs.declared.hits.Hit.{Hit}
+use Rattle.sv_table.specs.Lookups.{IsFoundIn, hit_op}
+use Rattle.sv_table.specs.Views.{op_is}
+
+found_stored : (test : Kept → Bool) (rows : List Kept) → AllByRecursion (λ (r : Kept). IsStored r.row) rows
+    → (op : Op) → Some op ≡ option_map (λ (r : Kept). r.row.op) (find test rows) → IsStoredOp op
+found_stored test [] all op e = absurd (cc)
+found_stored test (r ∷ rows) all op e = by_case (test r) e (found_stored test rows all.1 op)
+  where
+    by_case : (b : Bool) → Some op ≡ option_map (λ (x : Kept). x.row.op) (cond b (Some r) (find test rows))
+        → (Some op ≡ option_map (λ (x : Kept). x.row.op) (find test rows) → IsStoredOp op) → IsStoredOp op
+    by_case true h later = let q : op ≡ r.row.op = cc in subst IsStoredOp (sym q) all.0.op
+    by_case false h later = later h
+
+pub hit_stored : (bytes key : List ℕ) (cut : ℕ) (found : Option Hit) (hit : Hit) → IsTableFile bytes
+    → found ≡ Some hit → IsFoundIn bytes key cut (hit_op found) → IsStoredOp (op_is hit)
+hit_stored bytes key cut found hit f is h =
+    found_stored _ f.rows f.text.has.stored (op_is hit) (sym (ap hit_op is) ∙ h.of f.from f.to f.bottom f.rows f.text)

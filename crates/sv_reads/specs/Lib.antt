@@ -1,0 +1,5 @@
+pub mod Parts
+pub mod OneFile
+pub mod Faults
+pub mod Files
+pub mod Bodies
