@@ -1,7 +1,8 @@
 -- What the steps on locks make of a view, what they need, and what they tell: of the seat before, the word found and
 -- the seat after.
-use Rattle.std.specs.Prelude.{◌≡◌, ◌≢◌, ◌≤◌, ◌<◌, ◌+◌, ◌/◌, ◌%◌, ◌++◌, ◌⊎◌, ◌==◌, ◌||◌, ◌&&◌, ℕ, Bool, true, false, max, nat_lt, List, [], ◌∷◌, Option, Some, None, length, filter, not}
+use Rattle.std.specs.Prelude.{◌≡◌, ◌≢◌, ◌≤◌, ◌<◌, ◌+◌, ◌/◌, ◌%◌, ◌++◌, ◌⊎◌, ◌↔◌, ◌==◌, ◌||◌, ◌&&◌, ℕ, Bool, true, false, max, nat_lt, List, [], ◌∷◌, Option, Some, None, length, filter, not}
 use Rattle.std.specs.List.{list_any}
+use Rattle.std.specs.FinMap as map
 use Rattle.atomic_table.specs.Table.{Me, rest}
 use Rattle.sv_model.specs.declared.writes.Write.{Write}
 use Rattle.sv_model.specs.declared.records.FileMeta.{FileMeta}
@@ -249,7 +250,14 @@ pub record IsOwnRead (v : LaneView) (files : Files) (x : FileRead) : Type 0 wher
   pub number : x.number ≡ file.number
   pub bytes : x.bytes ≡ file_of x.number files
 
-pub record MayGiveDir (v : LaneView) (now : Disk) (u : Task) (reads : List FileRead) (rise : ℕ) : Type 0 where
+-- The names are those of the latest listing: as they were where none was made, and else just the directory's.
+abbrev pub AreListed : List (List ℕ) → List (List ℕ) → ℕ → Files → Type 0
+AreListed before names lists files =
+    ((lists ≡ 0) × (names ≡ before))
+    ⊎ ((1 ≤ lists) × ((name : List ℕ) → In name names ↔ (map.contains_key files name ≡ true)))
+
+pub record MayGiveDir (v : LaneView) (now : Disk) (u : Task) (reads : List FileRead) (names : List (List ℕ)) (lists rise : ℕ)
+    : Type 0 where
   pub alive : v.seat.spent ≡ false
   pub found : Disk
   pub has : v.locks.dir ≡ Some found
@@ -258,6 +266,7 @@ pub record MayGiveDir (v : LaneView) (now : Disk) (u : Task) (reads : List FileR
   pub marks : MarksTask v.known.task u
   pub files : Told (DirChange v u) found.files now.files
   pub reads_are : (files : Files) → found.files ≡ Some files → Every (IsOwnRead v files) reads
+  pub listed : (files : Files) → found.files ≡ Some files → AreListed v.names names lists files
   pub later : found.faults ≤ now.faults
   pub rose : (found.faults + rise ≤ now.faults) ⊎ (18446744073709551615 ≤ now.faults)
 

@@ -196,7 +196,7 @@ module _ {S D C B : Type 0} (books : S → Books) (disk : D → Disk) (cell : C 
       ))
 
   gives_own : (n id : ℕ) (u : Task) (reads : List FileRead) (names : List (List ℕ)) (lists rise : ℕ) (v : LaneView)
-      (more : List (ℕ × Stored S D C B)) (y : D) → MayGiveDir v (disk y) u reads rise
+      (more : List (ℕ × Stored S D C B)) (y : D) → MayGiveDir v (disk y) u reads names lists rise
       → let m : Me (Stored S D C B) LaneView = (v, (1, is.Dir y) ∷ more) in
       Allows (Kept books disk cell body) n id m 1 (λ _. 0) (GaveDir u reads names lists rise m)
   gives_own n id u reads names lists rise v more y may s kept long me fits =
@@ -273,7 +273,7 @@ module _ {S D C B : Type 0} (books : S → Books) (disk : D → Disk) (cell : C 
 
   pub gives_dir : (n id : ℕ) (u : Task) (reads : List FileRead) (names : List (List ℕ)) (lists rise : ℕ)
       (m : Me (Stored S D C B) LaneView) (more : List (ℕ × Stored S D C B)) (y : D)
-      → MayGiveDir m.0 (disk y) u reads rise → m.1 ≡ (1, is.Dir y) ∷ more
+      → MayGiveDir m.0 (disk y) u reads names lists rise → m.1 ≡ (1, is.Dir y) ∷ more
       → Allows (Kept books disk cell body) n id m 1 (λ _. 0) (GaveDir u reads names lists rise m)
   gives_dir n id u reads names lists rise m more y may e = subst
       (λ (c : List (ℕ × Stored S D C B)). Allows (Kept books disk cell body) n id (m.0, c) 1 (λ _. 0)
