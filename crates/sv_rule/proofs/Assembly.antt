@@ -9,7 +9,7 @@ use Rattle.atomic_table.specs.Table.{State, rest}
 use Rattle.sv_model.specs.Books.{Books}
 use Rattle.sv_model.specs.Cells.{Cell}
 use Rattle.sv_model.specs.Lists.{same, total, at}
-use Rattle.sv_rule.specs.Blanks.{no_locks}
+use Rattle.sv_rule.specs.Blanks.{nobody}
 use Rattle.sv_rule.specs.Fresh.{Fresh, FreshOf}
 use Rattle.sv_rule.specs.Home.{IsState, Lock, SlotOk}
 use Rattle.sv_rule.specs.Ledger.{Places, most_hand}
@@ -50,7 +50,7 @@ module _ {S D C B : Type 0} (books : S → Books) (disk : D → Disk) (cell : C 
     pub kept-by-word : (b : Books) (work : Work) → Lock (IsState {S = S} {D = D} {C = C} {B = B} books b work) has_db
         (word s 0) (home s 0) N.views → Desks b work N.views → Rest books disk cell body b work kept.start kept.d N
         → Places b.supers (reference N) (holders N) (owers N) → length w.hand ≤ most_hand → length w.slots.slot ≤ 16
-        → seat_view w ≡ seat_view v → (w.seat.spent ≡ true → w.locks ≡ no_locks)
+        → seat_view w ≡ seat_view v → (w.seat.spent ≡ true → w ≡ nobody)
         → Numbers b work (number N) → Rights work (number N) (slot N) N.views → Apart (number N) work
         → ((d : Desk) → w.locks.db ≡ Some d → Stock d.books d.work w.hand) → Fresh b (number N) N.views
         → Rounds b work (word N 82) (number N) N.views → Kept books disk cell body N
@@ -92,7 +92,7 @@ module _ {S D C B : Type 0} (books : S → Books) (disk : D → Disk) (cell : C 
         → Desks b work Z.views → Rest books disk cell body b work kept.start kept.d Z
         → Places b.supers (reference Z) (holders Z) (owers Z) → length w.hand ≤ most_hand → length w.slots.slot ≤ 16
         → seat_view w ≡ seat_view v
-        → (w.seat.spent ≡ true → w.locks ≡ no_locks) → Numbers b work (number Z)
+        → (w.seat.spent ≡ true → w ≡ nobody) → Numbers b work (number Z)
         → Rights work (number Z) (slot Z) Z.views → Apart (number Z) work
         → ((d : Desk) → w.locks.db ≡ Some d → Stock d.books d.work w.hand) → Fresh b (number Z) Z.views
         → Rounds b work (word Z 82) (number Z) Z.views → Kept books disk cell body Z
@@ -150,7 +150,7 @@ module _ {S D C B : Type 0} (books : S → Books) (disk : D → Disk) (cell : C 
         → Rest books disk cell body kept.b work kept.start kept.d M
         → ((q : ℕ) → 256 ≤ q → same q (slot s i) + holds q v ≡ same q x + holds q w) → w.owes ≡ v.owes
         → length w.hand ≤ most_hand → length w.slots.slot ≤ 16 → seat_view w ≡ seat_view v
-        → (w.seat.spent ≡ true → w.locks ≡ no_locks)
+        → (w.seat.spent ≡ true → w ≡ nobody)
         → Numbers kept.b work (number s) → Rights work (number s) (slot M) M.views → Apart (number s) work
         → ((d : Desk) → w.locks.db ≡ Some d → Stock d.books d.work w.hand) → Fresh kept.b (number s) M.views
         → rounds_of work ≡ rounds_of kept.work → rounds_view w ≡ rounds_view v → Kept books disk cell body M

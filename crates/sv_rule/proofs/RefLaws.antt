@@ -1,5 +1,6 @@
 -- A SuperVersion of which someone has a reference is Live, and what it names is not Gone.
 use Rattle.std.proofs.Common.{List, Some, ap, arith, inl, inr, refl, sym, true, ℕ, ⊎_elim, ◌%◌, ◌/◌, ◌<◌, ◌∙◌, ◌≡◌, ◌≤◌}
+use Rattle.sv_model.specs.Supers.{IsPackOf, LiveAt, pack}
 use mathlib.Core.Option.{some}
 use lib.ListN.{get_elem?}
 use Rattle.atomic_table.specs.Table.{State}
@@ -11,6 +12,7 @@ use Rattle.sv_model.specs.Numbers.{IsRegistered}
 use Rattle.sv_model.specs.Registers.{entry}
 use Rattle.sv_model.specs.declared.records.Descriptor.{Descriptor}
 use Rattle.sv_model.specs.declared.records.FileStatus.TheVariants.{Live}
+use Rattle.sv_model.specs.declared.records.Memtable.{Memtable}
 use Rattle.sv_model.specs.declared.records.MemtableList.{MemtableList}
 use Rattle.sv_model.specs.declared.records.SuperVersion.{SuperVersion}
 use Rattle.sv_model.specs.declared.records.Version.{Version}
@@ -18,10 +20,11 @@ use Rattle.sv_model.proofs.Registers.{entry_le}
 use Rattle.sv_rule.specs.Fits.{BodyFits}
 use Rattle.sv_rule.specs.Ledger.{Places}
 use Rattle.sv_rule.specs.LockPlays.{HasRef}
-use Rattle.sv_model.specs.Supers.{LiveAt, pack}
+use Rattle.sv_rule.specs.SlotPlays.{IsShown}
 use Rattle.sv_rule.specs.Table.{holders, holds, names, owers, reference, slot_of}
 use Rattle.sv_rule.specs.Views.{Bodied, LaneView, SlotView, away, borrow}
 use Rattle.sv_rule.proofs.Basics.{some_is}
+use Rattle.sv_rule.proofs.CurrentLaws.{pack_le}
 use Rattle.sv_rule.proofs.Places.{held_place}
 use Rattle.sv_rule.proofs.Sums.{at_le, same-self, term_le}
 
@@ -71,6 +74,23 @@ body-live b x t p =
 
 pub body-big : (b : Books) (x : Bodied) → BodyFits b x → 256 ≤ x.pack
 body-big b x t = omega (arith, t.pack_is, (entry_le b.supers t.serial t.super t.at).0)
+
+-- what a body tells without the books, where its SuperVersion is Live
+pub shown-of : (b : Books) → Lawful b → (f : ℕ) (x : Bodied) → BodyFits b x → IsPackOf b.supers f x.pack
+    → LiveAt b.supers (x.pack / 256) (x.pack % 256) → IsShown f x
+shown-of b lawful f x t of live =
+    let serial : t.serial ≡ x.pack / 256 = omega (arith, t.pack_is, t.within) in
+    let same : t.super ≡ of.sv = some_is (sym t.at ∙ (ap (entry b.supers) serial ∙ of.is)) in
+    let active = (names-live b lawful t.serial t.super t.at (body-live b x t live)).active in
+    let memtable : active.it ≡ t.fits.active = some_is (sym active.at ∙ t.fits.active_at) in
+    let cells = lawful.cells t.super.descriptor.active active.it active.at active.live in
+    let upto = pack_le of in record {
+      family = ap (λ (d : Descriptor). d.family) t.descriptor
+          ∙ (ap (λ (s : SuperVersion). s.descriptor.family) same ∙ of.family);
+      cell = omega (arith, t.cell_is, ap (λ (m : Memtable). m.cell) memtable, cells.0);
+      pack = body-big b x t;
+      small = omega (arith, upto, lawful.limits.supers);
+    }
 
 module _ {S : Type 0} (s : State S LaneView) (supers : List SuperVersion)
     (places : Places supers (reference s) (holders s) (owers s)) where

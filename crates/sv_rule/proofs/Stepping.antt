@@ -9,7 +9,7 @@ use Rattle.atomic_table.specs.Table.{State}
 use Rattle.sv_model.specs.Books.{Books}
 use Rattle.sv_model.specs.Lists.{Every, same, total, at}
 use Rattle.sv_model.specs.Places.{taken}
-use Rattle.sv_rule.specs.Blanks.{no_locks, nobody}
+use Rattle.sv_rule.specs.Blanks.{nobody}
 use Rattle.sv_rule.specs.Fresh.{Fresh, FreshIn, FreshOf}
 use Rattle.sv_rule.specs.Home.{Seats}
 use Rattle.sv_rule.specs.Ledger.{most_hand}
@@ -95,7 +95,7 @@ module _ {S : Type 0} (s : State S LaneView) (i x : ℕ) (homes : List (maybe.Op
   -- ---- seats
 
   pub seats_step : Seats s → length homes ≡ length s.homes → length w.slots.slot ≤ 16 → seat_view w ≡ seat_view v
-      → (w.seat.spent ≡ true → w.locks ≡ no_locks) → Seats next
+      → (w.seat.spent ≡ true → w ≡ nobody) → Seats next
   seats_step sh long few stand dead =
       let spent : w.seat.spent ≡ v.seat.spent = ap (λ (z : Bool × ℕ × ℕ × ℕ × List Joined). z.0) stand in
       let joined : w.joined ≡ v.joined = ap (λ (z : Bool × ℕ × ℕ × ℕ × List Joined). z.4) stand in
@@ -116,7 +116,7 @@ module _ {S : Type 0} (s : State S LaneView) (i x : ℕ) (homes : List (maybe.Op
             (λ e. ap (λ (z : Bool × ℕ × ℕ × ℕ × List Joined). z.1) stand ∙ sh.ordered id v me (sym spent ∙ e))
             sh.ordered;
         slots = each_set (λ j u. length u.slots.slot ≤ 16) s.views id w few sh.slots;
-        spent = each_set (λ j u. u.seat.spent ≡ true → u.locks ≡ no_locks) s.views id w dead sh.spent;
+        spent = each_set (λ j u. u.seat.spent ≡ true → u ≡ nobody) s.views id w dead sh.spent;
         joined = let one : Bool → ℕ = λ b. cond b 1 0 in
             omega (
               arith,

@@ -10,7 +10,7 @@ use Rattle.sv_rule.specs.declared.parts.Stored.{Stored}
 use Rattle.sv_rule.specs.declared.parts.Stored.TheVariants as is
 use Rattle.sv_rule.specs.Views.{LaneView, Desk, Work, Disk, idle}
 use Rattle.sv_rule.specs.Sums.{Each}
-use Rattle.sv_rule.specs.Blanks.{no_locks}
+use Rattle.sv_rule.specs.Blanks.{nobody}
 use Rattle.sv_rule.specs.Tasks.{has_db, has_dir, is_spent, joined_count, lanes}
 use Rattle.sv_rule.specs.Table.{Box, word, home, slot, slot_home}
 
@@ -28,8 +28,8 @@ pub record Seats {S : Type 0} (s : State S LaneView) : Type 0 where
   pub made : Each (λ j v. 0 < v.seat.made → (j ≡ 0) × (v.seat.made ≡ length s.views)) s.views
   pub ordered : Each (λ j v. v.seat.spent ≡ false → v.known.lane ≡ j) s.views
   pub slots : Each (λ j v. length v.slots.slot ≤ 16) s.views
-  -- a seat that was joined has no lock
-  pub spent : Each (λ j v. v.seat.spent ≡ true → v.locks ≡ no_locks) s.views
+  -- a seat that was joined has nothing
+  pub spent : Each (λ j v. v.seat.spent ≡ true → v ≡ nobody) s.views
   -- each seat that was joined stands in one view
   pub joined : total is_spent s.views ≡ total joined_count s.views
   pub below : Each (λ j v. Every (λ o. o.known.lane < length s.views) v.joined) s.views

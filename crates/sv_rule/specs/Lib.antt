@@ -21,5 +21,6 @@ pub mod RoundPlays
 pub mod SweepPlays
 pub mod LockPlays
 pub mod SeatPlays
+pub mod Closings
 pub mod Begins
 pub mod Holding

@@ -1,13 +1,13 @@
 -- What a lane's steps on its own slots, and its loads, make of its view, and what they tell.
-use Rattle.std.specs.Prelude.{◌≡◌, ◌≢◌, ◌⊎◌, ℕ, zero, suc, ◌+◌, ◌<◌, ◌≤◌, ◌==◌, nat_le, Bool, true, false, cond, List, [], ◌∷◌, Option, Some, None}
+use Rattle.std.specs.Prelude.{◌≡◌, ◌≢◌, ◌⊎◌, ℕ, zero, suc, ◌+◌, ◌<◌, ◌≤◌, ◌==◌, ◌^◌, nat_le, Bool, true, false, cond, List, [], ◌∷◌, Option, Some, None}
+use Rattle.sv_model.specs.Supers.{current_of}
 use Rattle.atomic_table.specs.Table.{Me, rest}
 use Rattle.sv_model.specs.declared.sv_refs.SvRef.{SvRef}
 use Rattle.sv_model.specs.Lists.{In, total, same, times, at}
 use Rattle.sv_rule.specs.declared.parts.Stored.{Stored}
 use Rattle.sv_rule.specs.declared.parts.Stored.TheVariants as is
 use Rattle.sv_rule.specs.Sums.{put, without}
-use Rattle.sv_model.specs.Supers.{current_of}
-use Rattle.sv_rule.specs.Views.{LaneView, Desk, SlotView, Body, away, held, borrow, idle, opens, begun, sweeping}
+use Rattle.sv_rule.specs.Views.{LaneView, Desk, SlotView, Bodied, Body, away, held, borrow, idle, opens, begun, sweeping}
 use Rattle.sv_rule.specs.Table.{slot_home, spot, slot_of}
 use Rattle.sv_rule.specs.ReferencePlays.{learnt}
 
@@ -38,6 +38,14 @@ IsCurrentAt f p (Some d) = d.work ≡ idle → p ≡ current_of d.books f
 
 -- ---- kinds 12 and 13, slot use and slot put
 
+-- What a body with its pack tells without the books: it is of the family, its cell is one of the table's, and its pack is
+-- a small word.
+pub record IsShown (f : ℕ) (x : Bodied) : Type 0 where
+  pub family : x.body.descriptor.family ≡ f
+  pub cell : x.body.cell < 64
+  pub pack : 256 ≤ x.pack
+  pub small : x.pack < 2 ^ 40
+
 module _ {S D C B : Type 0} (body : B → Body) where
   -- The lane has its slot, with what lay at it, unless a sweep has it. k uses are counted.
   pub record Used (f k : ℕ) (m : Me (Stored S D C B) LaneView) (r : ℕ) (n : Me (Stored S D C B) LaneView) : Type 0 where
@@ -51,6 +59,7 @@ module _ {S D C B : Type 0} (body : B → Body) where
               (counted k 0 0 (slotted f (held r) 0 r m.0)),
           (slot_home (spot m.0.known.lane f), is.Cached x) ∷ m.1,
         ))
+        × IsShown f (record { pack = r; body = body x.body.value })
     pub swept : 0 < r → r < 256 → n ≡ (counted k k 0 (slotted f away 0 r m.0), m.1)
     pub marks : r < 256 → r < 3
     pub current : 256 ≤ r → IsCurrentAt f r m.0.locks.db
@@ -134,5 +143,6 @@ module _ {A : Type 0} where
     pub current : IsCurrentAt f r m.0.locks.db
     -- no serial below one that was shown before
     pub rises : 256 ≤ r → at 0 m.0.slots.looked f ≤ r
+    pub small : r < 2 ^ 40
     -- a family of which the lane has a handle shows a current, to a lane without the DB lock that did not end it
     pub there : 1 ≤ times f m.0.known.task.handles → m.0.locks.db ≡ None → (In f m.0.seat.ends → ⊥) → 256 ≤ r

@@ -24,7 +24,7 @@ use Rattle.sv_rule.proofs.Sums.{term_le, terms_le, total-zero}
 module _ {S D C B : Type 0} (books : S → Books) (disk : D → Disk) (cell : C → Option Cell) (body : B → Body)
     (s : State (Stored S D C B) LaneView) (kept : Kept books disk cell body s) (id : ℕ) (v : LaneView)
     (me : get_elem? s.views id ≡ some v) (last : IsLast v) where
-  others_spent : (j : ℕ) (u : LaneView) → j ≢ id → get_elem? s.views j ≡ some u → u.seat.spent ≡ true
+  pub others_spent : (j : ℕ) (u : LaneView) → j ≢ id → get_elem? s.views j ≡ some u → u.seat.spent ≡ true
   others_spent j u n e = by_bool u.seat.spent (λ is. is)
       (λ is. absurd (omega (
         arith,
@@ -43,7 +43,7 @@ module _ {S D C B : Type 0} (books : S → Books) (disk : D → Disk) (cell : C 
   no_locks_out j u e = dite (ℕ_discrete j id)
       (λ is. let same : u ≡ v = some-injective u v (sym e ∙ ap (get_elem? s.views) is ∙ me) in
       ap (λ (y : LaneView). y.locks) same ∙ last.locks)
-      (λ n. kept.home.seats.spent j u e (others_spent j u n e))
+      (λ n. ap (λ (y : LaneView). y.locks) (kept.home.seats.spent j u e (others_spent j u n e)))
 
   none_has : (g : LaneView → ℕ) → ((u : LaneView) → u.locks ≡ no_locks → g u ≡ 0) → total g s.views ≡ 0
   none_has g h = total-zero g s.views (λ j u e. h u (no_locks_out j u e))

@@ -7,3 +7,4 @@ pub mod FirstWork
 pub mod Starts
 pub mod NewBooks
 pub mod Closes
+pub mod Ends

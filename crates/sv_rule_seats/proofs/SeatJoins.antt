@@ -1,5 +1,6 @@
 -- A seat that is joined into another keeps the rule.
 use Rattle.std.proofs.Common.{Bool, List, Option, [], ap, arith, cond, false, length, length-append, length-set, refl, set, subst, suc, sym, true, ℕ, ◌+◌, ◌<◌, ◌==◌, ◌∙◌, ◌∷◌, ◌≡◌, ◌≢◌, ◌≤◌}
+use Rattle.sv_model.specs.Tasks.{job_count, marks_of, output_count, Mark}
 use mathlib.Core.Logic.{dite}
 use mathlib.Core.Option.{some}
 use native.Mathlib.Decide.{ℕ_discrete}
@@ -8,13 +9,12 @@ use Rattle.atomic_table.specs.Table.{Joins, State}
 use Rattle.sv_model.specs.Books.{Books}
 use Rattle.sv_model.specs.Cells.{Cell}
 use Rattle.sv_model.specs.Lists.{Every, same, times, total, at}
-use Rattle.sv_rule.specs.Blanks.{no_locks, no_start, nobody}
+use Rattle.sv_rule.specs.Blanks.{no_start, nobody}
 use Rattle.sv_rule.specs.Home.{Seats}
 use Rattle.sv_rule.specs.InHand.{Accounts, IsClosing}
 use Rattle.sv_rule.specs.Rule.{Kept}
 use Rattle.sv_rule.specs.SeatPlays.{IsIdle, gathered, kept_of}
 use Rattle.sv_rule.specs.Sums.{Each}
-use Rattle.sv_model.specs.Tasks.{job_count, marks_of, output_count, Mark}
 use Rattle.sv_rule.specs.Table.{holds, names, number, slot_of}
 use Rattle.sv_rule.specs.Tasks.{cell_count, has_db, is_spent, joined_count, lanes, own_lane, some_count}
 use Rattle.sv_rule.specs.Views.{Body, Disk, Joined, LaneView, SlotView, away}
@@ -63,7 +63,7 @@ two_seats s sh f j u at_u c k y at_y ne alive = omega (
 )
 
 module _ {S D C B : Type 0} (books : S → Books) (disk : D → Disk) (cell : C → Option Cell) (body : B → Body) where
-  idle_holds : (w : LaneView) → IsIdle w → (q : ℕ) → holds q w ≡ 0
+  pub idle_holds : (w : LaneView) → IsIdle w → (q : ℕ) → holds q w ≡ 0
   idle_holds w h q = omega (arith, names_none q w.slots.slot h.slots, ap (total (same q)) h.hand)
 
   moves : (s : State (Stored S D C B) LaneView) (kept : Kept books disk cell body s) (id : ℕ) (v : LaneView)
@@ -168,7 +168,8 @@ module _ {S D C B : Type 0} (books : S → Books) (disk : D → Disk) (cell : C 
         ordered = both (λ j u. u.seat.spent ≡ false → u.known.lane ≡ j) (λ e. absurd (true_not e))
             (sh.ordered id v me) sh.ordered;
         slots = both (λ j u. length u.slots.slot ≤ 16) (omega arith) (sh.slots id v me) sh.slots;
-        spent = both (λ j u. u.seat.spent ≡ true → u.locks ≡ no_locks) (λ _. refl) (sh.spent id v me) sh.spent;
+        spent = both (λ j u. u.seat.spent ≡ true → u ≡ nobody) (λ _. refl) (λ z. absurd (true_not (sym z ∙ alive)))
+            sh.spent;
         joined = omega (
           arith,
           total-set is_spent s.views id v b me,

@@ -15,7 +15,7 @@ use Rattle.sv_model.specs.Numbers.{IsRegistered}
 use Rattle.sv_model.specs.TableTextFields.{start}
 use Rattle.sv_model.specs.declared.records.FileStatus.TheVariants.{Gone}
 use Rattle.sv_model.specs.declared.writes.Write.{Write}
-use Rattle.sv_rule.specs.Blanks.{bare_known, no_locks, nobody}
+use Rattle.sv_rule.specs.Blanks.{bare_known, nobody}
 use Rattle.sv_rule.specs.Fits.{BodyFits, IsGoneSnapshot, ReadFits, RowsFit, Together}
 use Rattle.sv_rule.specs.Home.{Seats}
 use Rattle.sv_rule.specs.InHand.{Accounts, IsClosing, WorkHeld}
@@ -143,7 +143,8 @@ module _ {S D C B : Type 0} (books : S → Books) (disk : D → Disk) (cell : C 
         ordered = both (λ j u. u.seat.spent ≡ false → u.known.lane ≡ j) (λ _. here.1 ∙ sym wide) (sh.ordered id v me)
             sh.ordered;
         slots = both (λ j u. length u.slots.slot ≤ 16) (omega arith) (sh.slots id v me) sh.slots;
-        spent = both (λ j u. u.seat.spent ≡ true → u.locks ≡ no_locks) (λ _. refl) (sh.spent id v me) sh.spent;
+        spent = both (λ j u. u.seat.spent ≡ true → u ≡ nobody) (λ z. absurd (true_not (sym z)))
+            (λ z. absurd (true_not (sym z ∙ may.alive))) sh.spent;
         joined = omega (arith, sum is_spent, sum joined_count, sh.joined);
         below = both (λ j u. Every (λ o. o.known.lane < length ws) u.joined)
             (every_none (λ o. o.known.lane < length ws)) (below_more long v.joined (sh.below id v me))

@@ -12,7 +12,7 @@ use Rattle.sv_model.specs.Lists.{Every, same}
 use Rattle.sv_model.specs.Openings.{first_memtable}
 use Rattle.sv_model.specs.declared.records.Memtable.{Memtable}
 use Rattle.sv_rule.specs.Begins.{FirstBooks, FirstCell, FirstSlots, FirstWords}
-use Rattle.sv_rule.specs.Blanks.{first_view, no_locks}
+use Rattle.sv_rule.specs.Blanks.{first_view, nobody}
 use Rattle.sv_rule.specs.Fresh.{FreshIn}
 use Rattle.sv_rule.specs.Held.{IsLent, Says, has_rows, is_vacant}
 use Rattle.sv_rule.specs.Ledger.{Places, most_hand}
@@ -27,7 +27,7 @@ use Rattle.sv_rule.specs.UnderWay.{Stock}
 use Rattle.sv_rule.specs.Views.{Body, CellHeld, Desk, Disk, LaneView, away, idle}
 use Rattle.sv_rule.specs.declared.parts.Stored.{Stored}
 use Rattle.sv_rule.specs.declared.parts.Stored.TheVariants as is
-use Rattle.sv_rule.proofs.Basics.{each_one, every_none, no_ref}
+use Rattle.sv_rule.proofs.Basics.{each_one, every_none, no_ref, true_not}
 use Rattle.sv_rule.proofs.CurrentLaws.{current_ends, current_is, current_marks, current_newest, get_lt, has_current_le, has_current_none, some-at}
 use Rattle.sv_rule_seats.proofs.FirstBooks.{based-first, bears_none, below-one, below-upto, below-zero, current_at_first, current_none, nth_memtable, super_at, super_only}
 use Rattle.sv_rule_seats.proofs.FirstWork.{files-first, work-first}
@@ -188,7 +188,7 @@ module _ {S D C B : Type 0} (books : S → Books) (disk : D → Disk) (cell : C 
         made = each_one (λ j u. 0 < u.seat.made → (j ≡ 0) × (u.seat.made ≡ 1)) v (λ _. (refl, refl));
         ordered = each_one (λ j u. u.seat.spent ≡ false → u.known.lane ≡ j) v (λ _. refl);
         slots = each_one (λ j u. length u.slots.slot ≤ 16) v (omega arith);
-        spent = each_one (λ j u. u.seat.spent ≡ true → u.locks ≡ no_locks) v (λ _. refl);
+        spent = each_one (λ j u. u.seat.spent ≡ true → u ≡ nobody) v (λ z. absurd (true_not (sym z)));
         joined = refl;
         below = each_one (λ j u. Every (λ o. o.known.lane < 1) u.joined) v (every_none (λ o. o.known.lane < 1));
         once = λ l. omega (arith, same_le l 0);

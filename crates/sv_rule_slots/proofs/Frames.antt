@@ -58,7 +58,7 @@ module _ {S D C B : Type 0} (books : S → Books) (disk : D → Disk) (cell : C 
         w,
         keeps,
         tt,
-        kept-by-load books disk cell body s kept id v w me 82 (omega arith) (omega arith) refl
+        kept-by-load books disk cell body s kept id v w me 82 (omega arith) (omega arith) alive refl
             (λ _. frames-account kept.b v.known w.known.frames r together (omega (arith, k.bound)) accounts)
             (λ q _. refl) (kept.home.seats.slots id v me) (kept.ledger.hands id v me) refl refl refl (λ f l o. o)
             (λ d e. kept.sweep.stock id v me d e) (λ f l. kept.fresh id v me f l)

@@ -20,7 +20,7 @@ use Rattle.sv_rule.specs.UnderWay.{Stock, fit, middle}
 use Rattle.sv_rule.specs.Views.{Body, Desk, Disk, Joined, LaneView}
 use Rattle.sv_rule.specs.declared.parts.Stored.{Stored}
 use Rattle.sv_rule.proofs.Assembly.{kept-by-word, low_id}
-use Rattle.sv_rule.proofs.Basics.{each_set}
+use Rattle.sv_rule.proofs.Basics.{each_set, true_not}
 use Rattle.sv_rule.proofs.DbLock.{db-same, owners-same}
 use Rattle.sv_rule.proofs.Places.{places_same}
 use Rattle.sv_rule.proofs.Resting.{hand_view, rest-same}
@@ -39,7 +39,7 @@ module _ {S D C B : Type 0} (books : S → Books) (disk : D → Disk) (cell : C 
       (word_here s i (word s i) s.homes id v w me (omega (arith, kept.home.seats.words)) ∙ ap (word s) (sym e)))
       (word_else s i (word s i) s.homes id v w me k)
 
-  pub kept-by-load : hand_view w ≡ hand_view v → (v.seat.spent ≡ false → Accounts kept.b w.known)
+  pub kept-by-load : v.seat.spent ≡ false → hand_view w ≡ hand_view v → (v.seat.spent ≡ false → Accounts kept.b w.known)
       → ((q : ℕ) → 256 ≤ q → holds q w ≡ holds q v) → length w.slots.slot ≤ 16 → length w.hand ≤ most_hand
       → w.owes ≡ v.owes → seat_view w ≡ seat_view v → w.locks.db ≡ v.locks.db
       → ((f : ℕ) → f < 16 → Right (fit kept.work f id (number s f)) (middle (spot id f) kept.work)
@@ -51,8 +51,7 @@ module _ {S D C B : Type 0} (books : S → Books) (disk : D → Disk) (cell : C 
       (at 0 w.slots.looked f) (at 0 w.known.seen f))
       → ((round : ℕ) (number' : ℕ → ℕ) → round ≡ word s 82 → ((f : ℕ) → f < 16 → number' f ≡ number s f)
       → Rounds kept.b kept.work round number' (set s.views id w)) → Kept books disk cell body L
-  kept-by-load hands mine same_holds few hand owed shaped e₃ rights stock fresh circles =
-      let same_locks : w.locks ≡ v.locks = λ k. record { db = e₃ k; cell = (hands k).3; dir = (hands k).6 } in
+  kept-by-load alive hands mine same_holds few hand owed shaped e₃ rights stock fresh circles =
       let numbers : (f : ℕ) → f < 16 → number L f ≡ number s f = λ f l. stays (number_word f) in
       let rights_at : (f : ℕ) → f < 16 → Right (fit kept.work f id (number s f)) (middle (spot id f) kept.work)
       (slot s (spot id f)) (number s f) (at 0 v.slots.cached f) (slot_of v f) = λ f l.
@@ -75,8 +74,8 @@ module _ {S D C B : Type 0} (books : S → Books) (disk : D → Disk) (cell : C 
       ))
       (λ q l. omega (arith, views_move s i (word s i) s.homes id v w me (owes q), ap (total (same q)) owed))
       kept.ledger.places)
-      hand few shaped (λ z. same_locks ∙ kept.home.seats.spent id v me
-      (ap (λ (y : Bool × ℕ × ℕ × ℕ × List Joined). y.0) (sym shaped) ∙ z))
+      hand few shaped (λ z. absurd (true_not (sym z
+      ∙ ap (λ (y : Bool × ℕ × ℕ × ℕ × List Joined). y.0) shaped ∙ alive)))
       (numbers_same kept.b kept.work (number s) (number L) numbers kept.numbers)
       (spots_set (λ l f c x. Right (fit kept.work f l (number L f)) (middle (spot l f) kept.work) (slot L (spot l f))
       (number L f) c x) s.views id v w me

@@ -1,5 +1,5 @@
 -- The kind number load keeps the rule.
-use Rattle.std.proofs.Common.{Bool, Option, ap, arith, false, refl, set, subst, sym, true, ℕ, ◌+◌, ◌<◌, ◌∙◌, ◌∷◌, ◌≡◌, ◌≤◌}
+use Rattle.std.proofs.Common.{Bool, Option, ap, arith, false, refl, set, subst, sym, true, ℕ, ◌+◌, ◌<◌, ◌^◌, ◌∙◌, ◌∷◌, ◌≡◌, ◌≤◌}
 use mathlib.Core.Logic.{dite}
 use mathlib.Core.Option.{some}
 use native.Mathlib.Decide.{dec_le, ℕ_discrete}
@@ -20,6 +20,7 @@ use Rattle.sv_rule.specs.UnderWay.{Stock, excepts, fit}
 use Rattle.sv_rule.specs.Views.{Body, Disk, Joined, LaneView, Load, SlotView, Work, away, borrow, idle}
 use Rattle.sv_rule.specs.declared.parts.Stored.{Stored}
 use Rattle.sv_rule.proofs.Basics.{by_bool, by_desk, every_cons}
+use Rattle.sv_rule.proofs.CurrentLaws.{pack_le}
 use Rattle.sv_rule_slots.proofs.Checks.{floor-checked, lends_is, lent-checked, names-checked, pack-checked, right_view}
 use Rattle.sv_rule_slots.proofs.LoadSteps.{L, kept-by-load}
 use Rattle.sv_rule_slots.proofs.References.{adds}
@@ -61,11 +62,17 @@ module _ {S D C B : Type 0} (books : S → Books) (disk : D → Disk) (cell : C 
               ∙ ap (λ (z : Books). current_of z f) (sym h.0)));
           rises = λ big. shown-rises kept.b (number s f) f (at 0 v.slots.looked f) big (kept.numbers.word f near).is
               (kept.fresh id v me f near).looked;
+          small = small s kept;
           there = λ has no_lock stays_on. handle-shows books disk cell body s kept id v me f near alive has no_lock
               stays_on;
         },
       )
     where
+      small : (s : State (Stored S D C B) LaneView) → Kept books disk cell body s → number s f < 2 ^ 40
+      small s kept = dite (dec_le 256 (number s f))
+          (λ big. omega (arith, pack_le ((kept.numbers.word f near).is big), kept.numbers.lawful.limits.supers))
+          (λ low. omega arith)
+
       seen_end : (s : State (Stored S D C B) LaneView) (kept : Kept books disk cell body s)
           → get_elem? s.views id ≡ some m.0 → 256 ≤ number s f → at 0 m.0.known.seen f ≤ end_at kept.b (number s f)
       seen_end s kept me big = omega (arith, (kept.fresh id m.0 me f near).seen_is, (kept.numbers.word f near).ends big)
@@ -97,7 +104,7 @@ module _ {S D C B : Type 0} (books : S → Books) (disk : D → Disk) (cell : C 
       plain s kept me = let v = m.0 in let r : ℕ = number s f in let n : ℕ = at 0 v.known.seen f in
           let x = checked (slot_of v f) r n in let w = looked_by false f r v in
           let here : slot_of w f ≡ x = at-put_same away v.slots.slot f x in
-          kept-by-load books disk cell body s kept id v w me (number_word f) (omega arith) (omega arith) refl
+          kept-by-load books disk cell body s kept id v w me (number_word f) (omega arith) (omega arith) alive refl
           (λ e. kept.in_hand.accounts id v me e)
           (λ q _. omega (arith, total-put (names q) away refl v.slots.slot f x, names-checked q r n (slot_of v f)))
           (length-put away v.slots.slot f x 16 (kept.home.seats.slots id v me) near) (kept.ledger.hands id v me) refl
@@ -140,7 +147,7 @@ module _ {S D C B : Type 0} (books : S → Books) (disk : D → Disk) (cell : C 
           let x = borrow r n in let w = looked_by true f r v in
           let is = lends_is f r v e in let here : slot_of w f ≡ x = at-put_same away v.slots.slot f x in
           let h = kept.home.desks id v me is.desk is.has in let rests : kept.work ≡ idle = sym h.1 ∙ is.resting in
-          kept-by-load books disk cell body s kept id v w me (number_word f) (omega arith) (omega arith) refl
+          kept-by-load books disk cell body s kept id v w me (number_word f) (omega arith) (omega arith) alive refl
           (λ e. kept.in_hand.accounts id v me e)
           (λ q big. omega (
             arith,

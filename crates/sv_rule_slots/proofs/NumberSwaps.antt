@@ -19,7 +19,7 @@ use Rattle.sv_model.specs.Supers.{current_of}
 use Rattle.sv_rule.specs.Sweep.{Right}
 use Rattle.sv_rule.specs.Table.{cached_at, holders, holds, number, number_word, owers, owes, reference, reference_word, slot, slot_of, slot_word, spot, word}
 use Rattle.sv_rule.specs.UnderWay.{Stock, fit, middle}
-use Rattle.sv_rule.specs.Views.{Bodied, Body, Desk, Disk, LaneView, Locks, Work, begun, sweeping}
+use Rattle.sv_rule.specs.Views.{Bodied, Body, Desk, Disk, LaneView, Work, begun, sweeping}
 use Rattle.sv_rule.specs.declared.parts.Stored.{Stored}
 use Rattle.sv_rule.proofs.Assembly.{N, kept-by-word, low_id, stays}
 use Rattle.sv_rule.proofs.Basics.{at_desk, each_set, no_desk_in}
@@ -116,7 +116,7 @@ module _ {S D C B : Type 0} (books : S → Books) (disk : D → Disk) (cell : C 
             ))
             (λ q l. omega (arith, views_move s i p s.homes id v w me (owes q))) kept.ledger.places)
             (omega (arith, reach_len r (without p v.hand), length-without p v.hand)) (kept.home.seats.slots id v me)
-            refl (λ z. absurd (no_desk_in has (ap (λ (l : Locks). l.db) (kept.home.seats.spent id v me z))))
+            refl (λ z. absurd (no_desk_in has (ap (λ (u : LaneView). u.locks.db) (kept.home.seats.spent id v me z))))
             (renumbered b f near (number s) (number next') before here' others r 0 0 false)
             (spots_keep (λ l g c x. Right (fit work g l (number next' g)) (middle (spot l g) work)
             (slot next' (spot l g)) (number next' g) c x) s.views id v w me

@@ -1,6 +1,9 @@
 -- The kind reference set keeps the rule, where it opens a place.
 -- no other lane has a handle of a family that is made
 use Rattle.std.proofs.Common.{List, None, Option, Some, [], ap, arith, length, refl, slice_get, subst, suc, sym, zero, ℕ, ⊎_elim, ◌%◌, ◌*◌, ◌++◌, ◌+◌, ◌/◌, ◌<◌, ◌∙◌, ◌∷◌, ◌≡◌, ◌≤◌}
+use Rattle.sv_model.specs.Turns.{IsNewMemtable, Opens, Turns}
+use Rattle.sv_model.specs.Tasks.{handle_in, Task}
+use Rattle.sv_model.specs.Supers.{LiveAt, current_of, pack}
 use mathlib.Core.Logic.{dite}
 use mathlib.Core.Option.{some}
 use native.Mathlib.Decide.{ℕ_discrete}
@@ -24,13 +27,10 @@ use Rattle.sv_rule.specs.Numbers.{Numbers}
 use Rattle.sv_rule.specs.ReferencePlays.{MayOpen, NewInCell, Opened, opened}
 use Rattle.sv_rule.specs.Rounds.{Rounds}
 use Rattle.sv_rule.specs.Rule.{Kept}
-use Rattle.sv_model.specs.Supers.{LiveAt, current_of, pack}
-use Rattle.sv_model.specs.Tasks.{handle_in, Task}
-use Rattle.sv_model.specs.Turns.{IsNewMemtable, Opens, Turns}
 use Rattle.sv_rule.specs.Table.{holders, number, number_word, owers, owes, reference, reference_word, slot, slot_word, word}
 use Rattle.sv_rule.specs.Tasks.{handles_of, has_db}
 use Rattle.sv_rule.specs.UnderWay.{Stock, fit, middle}
-use Rattle.sv_rule.specs.Views.{Bodied, Body, Desk, Disk, LaneView, Locks, Start, Work, idle, opens}
+use Rattle.sv_rule.specs.Views.{Bodied, Body, Desk, Disk, LaneView, Start, Work, idle, opens}
 use Rattle.sv_rule.specs.declared.parts.Stored.{Stored}
 use Rattle.sv_rule.proofs.Assembly.{N, kept-by-word, low_id, stays}
 use Rattle.sv_rule.proofs.Basics.{at_desk, each_other, every_append, every_cons, every_map, every_none, get-past, has_one, no_desk_in}
@@ -153,7 +153,7 @@ module _ {S D C B : Type 0} (books : S → Books) (disk : D → Disk) (cell : C 
             (ap (λ (z : ℕ). same z p) p_is ∙ same-self p))
             (word_here s i x s.homes id v w me (omega (arith, kept.home.seats.words))))
             (omega (arith, may.room)) (kept.home.seats.slots id v me) refl
-            (λ z. absurd (no_desk_in may.has (ap (λ (l : Locks). l.db) (kept.home.seats.spent id v me z))))
+            (λ z. absurd (no_desk_in may.has (ap (λ (u : LaneView). u.locks.db) (kept.home.seats.spent id v me z))))
             (numbers_same c (opens f) (number s) (number next') numbers
             (numbers-opens a c later before f p made (number s) lawful journal at_idle))
             (rights_stay kept.work (opens f) (number s) (number next') (slot s) (slot next') s.views id v w me

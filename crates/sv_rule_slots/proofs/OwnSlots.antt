@@ -26,7 +26,7 @@ use Rattle.sv_rule.specs.Views.{Body, Desk, Disk, Joined, LaneView, SlotView, Wo
 use Rattle.sv_rule.specs.declared.parts.Stored.{Stored}
 use Rattle.sv_rule.specs.declared.parts.Stored.TheVariants as is
 use Rattle.sv_rule.proofs.Assembly.{M, kept-by-slot, low_id, m_else, m_here, m_numbers}
-use Rattle.sv_rule.proofs.Basics.{each_set}
+use Rattle.sv_rule.proofs.Basics.{each_set, true_not}
 use Rattle.sv_rule.proofs.DbLock.{db-same, owners-same}
 use Rattle.sv_rule.proofs.FreshTurns.{stock-more}
 use Rattle.sv_rule.proofs.Resting.{hand_view, rest-stays, silent-stands}
@@ -67,7 +67,7 @@ module _ {S D C B : Type 0} (books : S → Books) (disk : D → Disk) (cell : C 
   own_fresh = kept.fresh id v me f near
 
   -- a step on a slot word of the lane's own, which leaves it the slot as X
-  pub kept_by_own : (w : LaneView) (x : ℕ) (X : SlotView) (homes : List (maybe.Option (Stored S D C B)))
+  pub kept_by_own : v.seat.spent ≡ false → (w : LaneView) (x : ℕ) (X : SlotView) (homes : List (maybe.Option (Stored S D C B)))
       → length homes ≡ length s.homes → ((k : ℕ) → k ≢ slot_home (spot id f)
       → get_elem? homes k ≡ get_elem? s.homes k) → SlotOk x (get_elem? homes (slot_home (spot id f)))
       → ((q : ℕ) → 256 ≤ q → same q (slot s (spot id f)) + names q (slot_of v f) + total (same q) v.hand ≡ same q
@@ -82,9 +82,8 @@ module _ {S D C B : Type 0} (books : S → Books) (disk : D → Disk) (cell : C 
       → Right (fit kept.work f id (number s f)) (middle (spot id f) kept.work) x (number s f) (at 0 w.slots.cached f) X
       → FreshOf kept.b (number s f) f X (at 0 w.slots.cached f) (at 0 v.slots.looked f) (at 0 v.known.seen f)
       → Kept books disk cell body (M books disk cell body s kept id v w me (spot id f) x lane_lt homes)
-  kept_by_own w x X homes long others ok moves slots_are cached_else looks seen desk owed few shaped stand stock hands
-      mine fits_here right fresh = let same_locks : w.locks ≡ v.locks =
-      λ k. record { db = desk k; cell = (hands k).3; dir = (hands k).6 } in let i = spot id f in
+  kept_by_own alive w x X homes long others ok moves slots_are cached_else looks seen desk owed few shaped stand stock hands
+      mine fits_here right fresh = let i = spot id f in
       let N = M books disk cell body s kept id v w me i x lane_lt homes in
       let rest = rest-stays books disk cell body s kept id v w me (slot_word i) x homes hands kept.work (omega arith)
       (λ k l. others k (λ e. omega arith)) mine
@@ -106,8 +105,7 @@ module _ {S D C B : Type 0} (books : S → Books) (disk : D → Disk) (cell : C 
       )) owed few
       (subst (λ (z : List SlotView). length z ≤ 16) (sym slots_are)
       (length-put away v.slots.slot f X 16 (kept.home.seats.slots id v me) near)) shaped
-      (λ z. same_locks ∙ kept.home.seats.spent id v me (ap (λ (y : Bool × ℕ × ℕ × ℕ × List Joined). y.0) (sym shaped)
-      ∙ z)) kept.numbers
+      (λ z. absurd (true_not (sym z ∙ ap (λ (y : Bool × ℕ × ℕ × ℕ × List Joined). y.0) shaped ∙ alive))) kept.numbers
       (spots_set (λ l g c y. Right (fit kept.work g l (number s g)) (middle (spot l g) kept.work) (slot N (spot l g))
       (number s g) c y) s.views id v w me
       (λ g l. dite (ℕ_discrete g f)

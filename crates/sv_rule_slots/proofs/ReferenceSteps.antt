@@ -8,7 +8,7 @@ use Rattle.atomic_table.specs.Table.{State}
 use Rattle.sv_model.specs.Books.{Books}
 use Rattle.sv_model.specs.Cells.{Cell}
 use Rattle.sv_model.specs.Lists.{same, total}
-use Rattle.sv_rule.specs.Blanks.{no_locks}
+use Rattle.sv_rule.specs.Blanks.{nobody}
 use Rattle.sv_rule.specs.Home.{IsState, Lock}
 use Rattle.sv_rule.specs.InHand.{Accounts}
 use Rattle.sv_rule.specs.Ledger.{Places, most_hand}
@@ -77,7 +77,7 @@ module _ {S D C B : Type 0} (books : S → Books) (disk : D → Disk) (cell : C 
       → ((f : ℕ) → 0 < excepts f work → 0 < excepts f kept.work) → (v.seat.spent ≡ false → Accounts kept.b w.known)
       → hand_view w ≡ hand_view v
       → Places kept.b.supers (reference R) (holders R) (owers R) → length w.hand ≤ most_hand
-      → fresh_view w ≡ fresh_view v → seat_view w ≡ seat_view v → (w.seat.spent ≡ true → w.locks ≡ no_locks)
+      → fresh_view w ≡ fresh_view v → seat_view w ≡ seat_view v → (w.seat.spent ≡ true → w ≡ nobody)
       → Numbers kept.b work (number s) → Rights work (number s) (slot s) s.views → Apart (number s) work
       → ((d : Desk) → w.locks.db ≡ Some d → Stock d.books d.work w.hand) → rounds_of work ≡ rounds_of kept.work
       → rounds_view w ≡ rounds_view v → Kept books disk cell body R

@@ -76,7 +76,7 @@ module _ {S D C B : Type 0} (books : S → Books) (disk : D → Disk) (cell : C 
             ∙ omega (arith, up, place.0, moved p, same-self p))
             (λ e. absurd (omega (arith, moved p)))
             (λ z. owed p ∙ place.2))
-            (omega arith) refl refl (kept.home.seats.spent id v me) kept.numbers kept.sweep.right kept.sweep.apart
+            (omega arith) refl refl (λ z. absurd (true_not (sym z ∙ alive))) kept.numbers kept.sweep.right kept.sweep.apart
             (λ d e. stock-more b.pack d.books d.work v.hand (kept.sweep.stock id v me d e)) refl refl,
         refl,
       )

@@ -1,6 +1,9 @@
 -- The kind round add keeps the rule.
 -- a family that has a current has none any more
 use Rattle.std.proofs.Common.{Bool, List, Option, Some, [], ap, arith, cond, false, inl, inr, length, option_map, refl, set, slice_get, subst, suc, sym, true, ℕ, ⊎_elim, ◌%◌, ◌+◌, ◌<◌, ◌==◌, ◌^◌, ◌∙◌, ◌∷◌, ◌≡◌, ◌≤◌, ◌⊎◌}
+use Rattle.sv_model.specs.Tasks.{Task}
+use Rattle.sv_model.specs.Turns.{EndsCurrent, Turns}
+use Rattle.sv_model.specs.Supers.{current_of, has_current}
 use mathlib.Core.Logic.{dite}
 use mathlib.Core.Option.{some}
 use mathlib.Core.Option as maybe
@@ -25,12 +28,9 @@ use Rattle.sv_rule.specs.RoundPlays.{EndedCurrent, MayEndCurrent, Rounded, ended
 use Rattle.sv_rule.specs.Rounds.{Rounds}
 use Rattle.sv_rule.specs.Rule.{Kept}
 use Rattle.sv_rule.specs.Sums.{below}
-use Rattle.sv_model.specs.Supers.{current_of, has_current}
-use Rattle.sv_model.specs.Turns.{EndsCurrent, Turns}
-use Rattle.sv_model.specs.Tasks.{Task}
 use Rattle.sv_rule.specs.Table.{holders, number, number_word, owers, owes, reference, reference_word, slot, slot_word, word}
 use Rattle.sv_rule.specs.UnderWay.{Stock, excepts, fit, middle}
-use Rattle.sv_rule.specs.Views.{Body, Desk, Disk, Joined, LaneView, Locks, Seat, Work, begun, idle, opens}
+use Rattle.sv_rule.specs.Views.{Body, Desk, Disk, Joined, LaneView, Seat, Work, begun, idle, opens}
 use Rattle.sv_rule.specs.declared.parts.Stored.{Stored}
 use Rattle.sv_rule.proofs.Assembly.{N, kept-by-word, low_id, stays}
 use Rattle.sv_rule.proofs.Basics.{at_desk, every_map, no_desk_in, some_is, true_not, views-else, views-here}
@@ -173,7 +173,7 @@ module _ {S D C B : Type 0} (books : S → Books) (disk : D → Disk) (cell : C 
             ))
             (λ q l. omega (arith, views_move s 82 x s.homes id v w me (owes q))) kept.ledger.places)
             (kept.ledger.hands id v me) (kept.home.seats.slots id v me) refl
-            (λ z. absurd (no_desk_in has (ap (λ (l : Locks). l.db) (kept.home.seats.spent id v me z))))
+            (λ z. absurd (no_desk_in has (ap (λ (u : LaneView). u.locks.db) (kept.home.seats.spent id v me z))))
             (numbers_same b (begun f) (number s) (number next') numbers
             (numbers-work b (opens f) (begun f) (number s) (λ g. refl)
             (subst (λ (z : Work). Numbers b z (number s)) is_set kept.numbers)))
@@ -249,7 +249,7 @@ module _ {S D C B : Type 0} (books : S → Books) (disk : D → Disk) (cell : C 
             ))
             (λ q l. omega (arith, views_move s 82 x s.homes id v w me (owes q))) kept.ledger.places))
             (kept.ledger.hands id v me) (kept.home.seats.slots id v me) refl
-            (λ z. absurd (no_desk_in may.has (ap (λ (l : Locks). l.db) (kept.home.seats.spent id v me z))))
+            (λ z. absurd (no_desk_in may.has (ap (λ (u : LaneView). u.locks.db) (kept.home.seats.spent id v me z))))
             (numbers_same c (begun f) (number s) (number next') numbers
             (numbers-ended a c later f ended (number s) lawful journal (omega (arith, number_is, big)) at_idle))
             (rights_stay kept.work (begun f) (number s) (number next') (slot s) (slot next') s.views id v w me

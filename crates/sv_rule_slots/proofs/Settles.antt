@@ -1,6 +1,9 @@
 -- The kind reference set keeps the rule, where it closes a place after a cleanup.
 -- a pack that is owed is Live
 use Rattle.std.proofs.Common.{List, None, Option, Some, [], ap, arith, length, option_map, refl, slice_get, subst, sym, ℕ, ⊎_elim, ◌%◌, ◌++◌, ◌+◌, ◌/◌, ◌<◌, ◌∙◌, ◌≡◌, ◌⊎◌}
+use Rattle.sv_model.specs.Tasks.{Task}
+use Rattle.sv_model.specs.Turns.{EndsSuper, NoneRetires, Turns}
+use Rattle.sv_model.specs.Supers.{LiveAt, current_of, pack}
 use mathlib.Core.Logic.{dite}
 use native.Mathlib.Decide.{ℕ_discrete}
 use Rattle.atomic_table.specs.Table.{Allows, Me, State, keeps}
@@ -15,13 +18,10 @@ use Rattle.sv_rule.specs.Home.{IsState}
 use Rattle.sv_rule.specs.Ledger.{Counted, Vacant}
 use Rattle.sv_rule.specs.ReferencePlays.{MaySettle, Settled, settled}
 use Rattle.sv_rule.specs.Rule.{Kept}
-use Rattle.sv_model.specs.Supers.{LiveAt, current_of, pack}
-use Rattle.sv_model.specs.Turns.{EndsSuper, NoneRetires, Turns}
-use Rattle.sv_model.specs.Tasks.{Task}
 use Rattle.sv_rule.specs.Table.{holders, home, number, number_word, owers, owes, reference, reference_word, slot, slot_word, word}
 use Rattle.sv_rule.specs.Tasks.{fill_count, fills, has_db, some_count}
 use Rattle.sv_rule.specs.UnderWay.{Stock}
-use Rattle.sv_rule.specs.Views.{Body, CellHeld, Desk, Disk, LaneView, Locks}
+use Rattle.sv_rule.specs.Views.{Body, CellHeld, Desk, Disk, LaneView}
 use Rattle.sv_rule.specs.declared.parts.Stored.{Stored}
 use Rattle.sv_rule.proofs.Assembly.{N, kept-by-word, low_id, stays}
 use Rattle.sv_rule.proofs.Basics.{at_desk, every_map, has_one, no_desk_in}
@@ -115,7 +115,7 @@ module _ {S D C B : Type 0} (books : S → Books) (disk : D → Disk) (cell : C 
             (subst (λ (z : ℕ). owers next' z + 1 ≡ owers s z) (sym p_is) (omega (arith, less p, same-self p)))
             (live-gone a c later p cells gone) (live-stays a c later p cells gone))
             (kept.ledger.hands id v me) (kept.home.seats.slots id v me) refl
-            (λ z. absurd (no_desk_in may.has (ap (λ (l : Locks). l.db) (kept.home.seats.spent id v me z))))
+            (λ z. absurd (no_desk_in may.has (ap (λ (u : LaneView). u.locks.db) (kept.home.seats.spent id v me z))))
             (numbers_same c work (number s) (number next') numbers
             (numbers-gone a c later p cells gone work (number s) lawful journal kept.numbers))
             (rights_stay work work (number s) (number next') (slot s) (slot next') s.views id v w me

@@ -66,7 +66,7 @@ module _ {S D C B : Type 0} (books : S → Books) (disk : D → Disk) (cell : C 
             slotted f away p r v,
             gives,
             tt,
-            kept_by_own books disk cell body s kept id v me f near (slotted f away p r v) p away
+            kept_by_own books disk cell body s kept id v me f near alive (slotted f away p r v) p away
                 (set s.homes (slot_home i) (some (is.Cached x)))
                 (length-set s.homes (slot_home i) (some (is.Cached x)))
                 (λ j ne. set_else s.homes (slot_home i) j (some (is.Cached x)) ne)
@@ -115,7 +115,7 @@ module _ {S D C B : Type 0} (books : S → Books) (disk : D → Disk) (cell : C 
             counted 0 0 1 (slotted f (held p) 0 r v),
             keeps,
             tt,
-            kept_by_own books disk cell body s kept id v me f near (counted 0 0 1 (slotted f (held p) 0 r v)) r
+            kept_by_own books disk cell body s kept id v me f near alive (counted 0 0 1 (slotted f (held p) 0 r v)) r
                 (held p) s.homes refl (λ _ _. refl) ok
                 (λ q z. ap (λ y. same q r + names q y + total (same q) v.hand) borrowed)
                 refl (λ g n. at-put_else 0 v.slots.cached f g 0 n) refl refl refl refl (kept.ledger.hands id v me)
@@ -179,7 +179,7 @@ module _ {S D C B : Type 0} (books : S → Books) (disk : D → Disk) (cell : C 
             w,
             gives,
             tt,
-            kept_by_own books disk cell body s kept id v me f near w 0 away homes
+            kept_by_own books disk cell body s kept id v me f near alive w 0 away homes
                 (length-set s.homes (slot_home i) (some is.Nothing))
                 (λ j n. set_else s.homes (slot_home i) j (some is.Nothing) n)
                 record {

@@ -1,5 +1,6 @@
 -- The kind slot use keeps the rule.
-use Rattle.std.proofs.Common.{List, Option, Some, [], ap, arith, false, inl, inr, length, length-set, refl, set, subst, sym, ℕ, ◌++◌, ◌+◌, ◌<◌, ◌∙◌, ◌∷◌, ◌≡◌, ◌≢◌, ◌≤◌, ◌⊎◌}
+use Rattle.std.proofs.Common.{List, Option, Some, [], ap, arith, false, inl, inr, length, length-set, refl, set, subst, sym, ℕ, ◌%◌, ◌++◌, ◌+◌, ◌/◌, ◌<◌, ◌∙◌, ◌∷◌, ◌≡◌, ◌≢◌, ◌≤◌, ◌⊎◌}
+use Rattle.sv_model.specs.Supers.{IsPackOf, LiveAt, current_of}
 use mathlib.Core.Logic.{dite}
 use mathlib.Core.Option.{none, some}
 use mathlib.Core.Option as maybe
@@ -18,7 +19,6 @@ use Rattle.sv_rule.specs.InHand.{Accounts}
 use Rattle.sv_rule.specs.Rule.{Kept}
 use Rattle.sv_rule.specs.SlotPlays.{IsCurrentAt, Used, counted, slotted}
 use Rattle.sv_rule.specs.Sums.{put}
-use Rattle.sv_model.specs.Supers.{current_of}
 use Rattle.sv_rule.specs.Sweep.{Right, lent, pack_of}
 use Rattle.sv_rule.specs.Table.{Box, names, number, slot, slot_home, slot_of, slot_word, spot, word}
 use Rattle.sv_rule.specs.UnderWay.{excepts, fit, middle}
@@ -28,8 +28,9 @@ use Rattle.sv_rule.specs.declared.parts.Stored.TheVariants as is
 use Rattle.sv_rule.proofs.Assembly.{M}
 use Rattle.sv_rule.proofs.Basics.{by_desk, every_cons, every_none}
 use Rattle.sv_rule_slots.proofs.OwnSlots.{fit_idle, kept_by_own, lane_lt, own_fresh, own_right}
+use Rattle.sv_rule.proofs.RefLaws.{held-live, shown-of}
 use Rattle.sv_rule.proofs.Resting.{accounts-bodies}
-use Rattle.sv_rule.proofs.Sums.{at-put_else, at-put_same, at_lt, marked}
+use Rattle.sv_rule.proofs.Sums.{at-put_else, at-put_same, at_lt, below-term_le, marked, same-self}
 
 -- the view after the use, which may know more bodies
 abbrev used_view : ℕ → LaneView → ℕ → ℕ → ℕ → SlotView → List Bodied → LaneView
@@ -67,7 +68,7 @@ module _ {S D C B : Type 0} (books : S → Books) (disk : D → Disk) (cell : C 
       step a b r X L homes mine same_long others ok moves single packs low = let v = m.0 in
           let fr = own_fresh books disk cell body s kept id v me f near in
           let c' : at 0 (put 0 v.slots.cached f 0) f ≡ 0 = at-put_same 0 v.slots.cached f 0 in
-          kept_by_own books disk cell body s kept id v me f near (used_view f m.0 a b r X L) 1 X homes same_long
+          kept_by_own books disk cell body s kept id v me f near alive (used_view f m.0 a b r X L) 1 X homes same_long
           others ok
           (λ q l. omega (arith, moves q l, ap (names q) free, marked q 1 l (omega arith)))
           refl (λ g ne. at-put_else 0 v.slots.cached f g 0 ne) refl refl refl refl (kept.ledger.hands id v me) refl
@@ -123,6 +124,21 @@ module _ {S D C B : Type 0} (books : S → Books) (disk : D → Disk) (cell : C 
           ∙ ((kept.numbers.word f near).current (ap (excepts f) rests)
           ∙ ap (λ (z : Books). current_of z f) (sym h.0)))))
 
+      -- the slot holds a reference of a Live SuperVersion of the family
+      pack_of_slot : 256 ≤ slot s (spot id f) → IsPackOf kept.b.supers f (slot s (spot id f))
+      pack_of_slot big = let at_slot : slot s (spot id f) ≡ at 0 m.0.slots.cached f = o.cached big in
+          subst (IsPackOf kept.b.supers f) (sym at_slot)
+          ((own_fresh books disk cell body s kept id m.0 me f near).cached (omega (arith, at_slot))).is
+
+      live_slot : 256 ≤ slot s (spot id f) → LiveAt kept.b.supers (slot s (spot id f) / 256)
+          (slot s (spot id f) % 256)
+      live_slot big = let p : ℕ = slot s (spot id f) in
+          held-live s kept.b.supers kept.ledger.places p big (omega (
+            arith,
+            below-term_le (λ i. same p (slot s i)) (spot id f) 512 (lane_lt books disk cell body s kept id m.0 me f near),
+            same-self p,
+          ))
+
       still : (d : Desk) → m.0.locks.db ≡ Some d → d.work ≡ idle → (slot s (spot id f) ≡ 0) ⊎ (256 ≤ slot s (spot id f))
       still d has resting = let h = kept.home.desks id m.0 me d has in
           let no : middle (spot id f) kept.work ≡ 0 = ap (middle (spot id f)) (sym h.1 ∙ resting) in
@@ -174,6 +190,7 @@ module _ {S D C B : Type 0} (books : S → Books) (disk : D → Disk) (cell : C 
                   used_view f m.0 k 0 r (held r) (m.0.known.bodies ++ b ∷ []),
                   own (is.Cached x.0) c,
                 ),
+                shown-of kept.b kept.numbers.lawful f b fit_x (pack_of_slot z) (live_slot z),
               );
               swept = λ _ y. absurd (omega arith);
               marks = λ y. absurd (omega arith);

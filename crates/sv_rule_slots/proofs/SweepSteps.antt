@@ -21,7 +21,7 @@ use Rattle.sv_rule.specs.SweepPlays.{beyond, works}
 use Rattle.sv_rule.specs.Table.{cached_at, number, slot, slot_at, slot_home, slot_word, spot}
 use Rattle.sv_rule.specs.Tasks.{lanes}
 use Rattle.sv_rule.specs.UnderWay.{Apart, Stock, excepts, fit, middle}
-use Rattle.sv_rule.specs.Views.{Bodied, Body, Desk, Disk, LaneView, Locks, SlotView, Work, idle, sweeping}
+use Rattle.sv_rule.specs.Views.{Bodied, Body, Desk, Disk, LaneView, SlotView, Work, idle, sweeping}
 use Rattle.sv_rule.specs.declared.parts.Stored.{Stored}
 use Rattle.sv_rule.specs.declared.parts.Stored.TheVariants as is
 use Rattle.sv_rule.proofs.Assembly.{M, kept-by-slot, low_id, m_else, m_here, m_numbers}
@@ -104,7 +104,7 @@ module _ {S D C B : Type 0} (books : S → Books) (disk : D → Disk) (cell : C 
       (λ k r z e. dite (ℕ_discrete k i) (λ y. fits_here r (ap (λ j. get_elem? homes (slot_home j)) (sym y) ∙ e))
       (λ y. kept.held.bodies k r z (sym (others (slot_home k) (λ q. y (omega arith))) ∙ e))))
       (λ q z. omega (arith, moves q z)) refl few (kept.home.seats.slots id v me) refl
-      (λ z. absurd (no_desk_in has (ap (λ (l : Locks). l.db) (kept.home.seats.spent id v me z))))
+      (λ z. absurd (no_desk_in has (ap (λ (u : LaneView). u.locks.db) (kept.home.seats.spent id v me z))))
       (numbers-work kept.b kept.work work (number s) (λ g. no_except g ∙ ap (excepts g) h.1) kept.numbers)
       (ends (slot N) N.views (length-set s.views id w) (spots_keep
       (λ k g c y. Right (fit mid g k (number s g)) (middle (spot k g) mid) (slot N (spot k g)) (number s g) c y)

@@ -21,7 +21,7 @@ use Rattle.sv_model.specs.Tasks.{Task}
 use Rattle.sv_rule.specs.declared.parts.Stored.{Stored}
 use Rattle.sv_rule.specs.declared.parts.Stored.TheVariants as is
 use Rattle.sv_slots.proofs.Laws.{desk_is_of}
-use Rattle.sv_slots.proofs.Slots.{front_of}
+use Rattle.sv_slots.proofs.SlotSteps.{front_of}
 use Rattle.sv_slots.specs.Seats.{CarriesNothing}
 
 module _ {S D C B : Type 0} (books : S → Books) (disk : D → Disk) (cell : C → Option Cell) (body : B → Body)

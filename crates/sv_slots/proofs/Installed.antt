@@ -1,5 +1,7 @@
 -- What a lane knows along an install, a retirement, a sweep and a cleanup.
-use Rattle.std.proofs.Common.{List, None, Option, Some, [], ap, arith, length, refl, subst, sym, slice_get, ℕ, ◌+◌, ◌<◌, ◌∙◌, ◌∷◌, ◌≡◌, ◌≤◌}
+use Rattle.std.proofs.Common.{List, None, Option, Some, ap, arith, length, refl, subst, sym, ℕ, ◌<◌, ◌∙◌, ◌≡◌}
+use Rattle.sv_model.specs.Tasks.{Task}
+use Rattle.sv_model.specs.Supers.{current_of, current_serial, pack_of_serial}
 use Rattle.atomic_table.specs.Table.{Me}
 use Rattle.sv_model.specs.Books.{Books}
 use Rattle.sv_model.specs.Lists.{Every}
@@ -10,12 +12,10 @@ use Rattle.sv_rule.specs.Fits.{BodyFits}
 use Rattle.sv_rule.specs.Numbers.{NumberOk}
 use Rattle.sv_rule.specs.ReferencePlays.{MayOpen, opened, settled}
 use Rattle.sv_rule.specs.RoundPlays.{MayEndCurrent, MaySwap, Numbered, ended_current, numbered, rounded}
-use Rattle.sv_model.specs.Supers.{current_of, current_serial, pack_of_serial}
-use Rattle.sv_model.specs.Tasks.{Task}
 use Rattle.sv_rule.specs.SweepPlays.{Sweeps}
 use Rattle.sv_rule.specs.Tasks.{some_count}
 use Rattle.sv_rule.specs.Views.{Bodied, Body, Desk, LaneView, begun, opens}
-use Rattle.sv_slots.proofs.Carrying.{beside, seated}
+use Rattle.sv_slots.proofs.CallCarrying.{beside, seated}
 use Rattle.sv_slots.specs.Installs.{IsSwept, installed, retired}
 
 module _ {A : Type 0} (f p : ℕ) (x : Bodied) (b : Books) (u : Task) (olds : List Bodied) (m m₁ m₂ : Me A LaneView)

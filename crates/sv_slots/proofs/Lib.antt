@@ -1,7 +1,16 @@
 pub mod Laws
-pub mod Slots
+pub mod SlotSteps
+pub mod BorrowSteps
+pub mod GiveBackSteps
+pub mod LookSteps
 pub mod Turns
 pub mod Carrying
+pub mod CallCarrying
 pub mod LockCarrying
 pub mod InstallLaws
 pub mod Installed
+pub mod Rows
+pub mod Begins
+pub mod Ends
+pub mod Unchanged
+pub mod OpenedSeats

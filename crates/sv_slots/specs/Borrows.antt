@@ -1,9 +1,9 @@
 -- What the calls on a lane's own slots make of its view, and what they answer.
-use Rattle.std.specs.Prelude.{◌≡◌, ◌≢◌, ◌+◌, ◌≤◌, ◌<◌, ◌∷◌, [], ℕ, Option, Some, None, false}
+use Rattle.std.specs.Prelude.{◌≡◌, ◌≢◌, ◌+◌, ◌≤◌, ◌<◌, ◌^◌, ◌∷◌, [], ℕ, Option, Some, None, false}
 use Rattle.sv_model.specs.declared.sv_refs.SvRef.{SvRef}
 use Rattle.sv_model.specs.Lists.{In, times, at}
 use Rattle.sv_rule.specs.ReferencePlays.{learnt}
-use Rattle.sv_rule.specs.SlotPlays.{IsCurrentAt, counted, looked_by, slotted}
+use Rattle.sv_rule.specs.SlotPlays.{IsCurrentAt, IsShown, counted, looked_by, slotted}
 use Rattle.sv_rule.specs.Sums.{put, without}
 use Rattle.sv_rule.specs.Views.{Bodied, Body, LaneView, away, borrow}
 use Rattle.sv_slots.specs.Seats.{bodied}
@@ -43,18 +43,19 @@ stale f x now v = handed x.pack (learnt (x ∷ []) (saw f now (counted 1 1 0 (sl
 pub record Told (f p : ℕ) (old : LaneView) : Type 0 where
   pub current : IsCurrentAt f p old.locks.db
   pub rises : 256 ≤ p → at 0 old.slots.looked f ≤ p
+  pub small : p < 2 ^ 40
   pub there : 1 ≤ times f old.known.task.handles → old.locks.db ≡ None → (In f old.seat.ends → ⊥) → 256 ≤ p
 
 pub record IsHit {B : Type 0} (body : B → Body) (f : ℕ) (sv : SvRef B) (old new : LaneView) : Type 0 where
   pub view : new ≡ hit f (bodied body sv) old
-  pub pack : 256 ≤ sv.pack
+  pub shown : IsShown f (bodied body sv)
   pub was_cached : sv.pack ≡ at 0 old.slots.cached f
   pub told : Told f sv.pack old
 
 pub record IsStale {B : Type 0} (body : B → Body) (f : ℕ) (sv : SvRef B) (now : ℕ) (old new : LaneView) : Type
     0 where
   pub view : new ≡ stale f (bodied body sv) now old
-  pub pack : 256 ≤ sv.pack
+  pub shown : IsShown f (bodied body sv)
   pub was_cached : sv.pack ≡ at 0 old.slots.cached f
   pub other : now ≢ sv.pack
   pub told : Told f now old
@@ -87,7 +88,7 @@ IsBack body f sv (Swept back) old new = (bodied body back ≡ bodied body sv) ×
 -- the slot caches nothing, and the lane has in hand what it cached, which with the DB lock and no work is the current
 pub record IsTaken {B : Type 0} (body : B → Body) (f : ℕ) (sv : SvRef B) (old new : LaneView) : Type 0 where
   pub view : new ≡ handed sv.pack (learnt (bodied body sv ∷ []) (slotted f away 0 sv.pack old))
-  pub pack : 256 ≤ sv.pack
+  pub shown : IsShown f (bodied body sv)
   pub was_cached : sv.pack ≡ at 0 old.slots.cached f
   pub current : IsCurrentAt f sv.pack old.locks.db
 

@@ -3,3 +3,6 @@ pub mod Seats
 pub mod Borrows
 pub mod References
 pub mod Installs
+pub mod Openings
+pub mod Closings
+pub mod Known

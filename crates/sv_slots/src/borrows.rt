@@ -4,9 +4,10 @@ ghost use Rattle.sv_model.specs.Lists.{In, same, total, at};
 ghost use Rattle.sv_model.specs.Supers.{current_of};
 ghost use Rattle.sv_rule.specs.Table.{slot_of};
 ghost use Rattle.sv_rule.specs.Views.{away, idle};
+ghost use Rattle.sv_slots.specs.Known.{CameWith, IsSameSeat, table_of, view_of};
 ghost use Rattle.sv_slots.specs.Seats.{HasDesk, Lends, bodied};
 
-use crate::table::{Core, LaneSeat, slot_home_of, word_of};
+use crate::table::{Core, LaneSeat, MAX_HAND, slot_home_of, word_of};
 use sv_model::{FamilyId, SvRef};
 use sv_rule::Parts;
 
@@ -48,13 +49,13 @@ impl<P: Parts> Core<P> {
 
     /// Takes the lane's slot of a family for a borrow, where the slot caches the current SuperVersion.
     pub fn try_borrow(&self, seat: &mut LaneSeat<P>, family: FamilyId) -> Result<Borrow<P>, Miss<P>>
-        requires table { seat.old.seat.table_id ≡ self.now.table.shared.table_id }
+        requires table { CameWith (table_of self.now) seat.old }
         requires family { family < 16 }
-        requires free { slot_of seat.old.seat.me.0 family ≡ away }
-        requires room { length seat.old.seat.me.0.hand < 65600 }
-        ensures same { (seat.new.seat.table_id ≡ seat.old.seat.table_id) × (seat.new.lane ≡ seat.old.lane) }
-        ensures ok { IfOk result (λ b. (b.family ≡ family) × IsHit P.body family b.sv seat.old.seat.me.0 seat.new.seat.me.0) }
-        ensures err { IfErr result (λ e. IsMiss P.body family e seat.old.seat.me.0 seat.new.seat.me.0) }
+        requires free { slot_of (view_of seat.old) family ≡ away }
+        requires room { length (view_of seat.old).hand < MAX_HAND }
+        ensures same { IsSameSeat seat.old seat.new }
+        ensures ok { IfOk result (λ b. (b.family ≡ family) × IsHit P.body family b.sv (view_of seat.old) (view_of seat.new)) }
+        ensures err { IfErr result (λ e. IsMiss P.body family e (view_of seat.old) (view_of seat.new)) }
     {
         let lane = seat.lane;
         match self.borrow_at(&mut seat.seat, lane, family.0) {
@@ -74,14 +75,14 @@ impl<P: Parts> Core<P> {
         family: FamilyId,
         fresh: SvRef<P::Body>,
     ) -> Borrow<P>
-        requires table { seat.old.seat.table_id ≡ self.now.table.shared.table_id }
+        requires table { CameWith (table_of self.now) seat.old }
         requires family { family < 16 }
-        requires free { (slot_of seat.old.seat.me.0 family ≡ away) × (at 0 seat.old.seat.me.0.slots.cached family ≡ 0) }
-        requires lock { HasDesk seat.old.seat.me.0 (λ d. (d.work ≡ idle) × (fresh.pack ≡ current_of d.books family)) }
-        requires fresh { (256 ≤ fresh.pack) × (0 < total (same fresh.pack) seat.old.seat.me.0.hand) }
-        ensures same { (seat.new.seat.table_id ≡ seat.old.seat.table_id) × (seat.new.lane ≡ seat.old.lane) }
+        requires free { (slot_of (view_of seat.old) family ≡ away) × (at 0 (view_of seat.old).slots.cached family ≡ 0) }
+        requires lock { HasDesk (view_of seat.old) (λ d. (d.work ≡ idle) × (fresh.pack ≡ current_of d.books family)) }
+        requires fresh { (256 ≤ fresh.pack) × (0 < total (same fresh.pack) (view_of seat.old).hand) }
+        ensures same { IsSameSeat seat.old seat.new }
         ensures borrow { (result.family ≡ family) × (result.sv ≡ fresh) }
-        ensures view { seat.new.seat.me.0 ≡ borrowed family fresh.pack seat.old.seat.me.0 }
+        ensures view { view_of seat.new ≡ borrowed family fresh.pack (view_of seat.old) }
     {
         let lane = seat.lane;
         self.borrow_locked_at(&mut seat.seat, lane, family.0, &fresh);
@@ -91,13 +92,13 @@ impl<P: Parts> Core<P> {
 
     /// Gives a borrow back to the lane's slot, unless a sweep was there.
     pub fn give_back(&self, seat: &mut LaneSeat<P>, borrow: Borrow<P>) -> Back<P>
-        requires table { seat.old.seat.table_id ≡ self.now.table.shared.table_id }
+        requires table { CameWith (table_of self.now) seat.old }
         requires family { (borrow.family < 16) × (256 ≤ borrow.sv.pack) }
-        requires lent { Lends seat.old.seat.me.0 borrow.family borrow.sv.pack }
-        requires known { In (bodied P.body borrow.sv) seat.old.seat.me.0.known.bodies }
-        requires room { length seat.old.seat.me.0.hand < 65600 }
-        ensures same { (seat.new.seat.table_id ≡ seat.old.seat.table_id) × (seat.new.lane ≡ seat.old.lane) }
-        ensures given { IsBack P.body borrow.family borrow.sv result seat.old.seat.me.0 seat.new.seat.me.0 }
+        requires lent { Lends (view_of seat.old) borrow.family borrow.sv.pack }
+        requires known { In (bodied P.body borrow.sv) (view_of seat.old).known.bodies }
+        requires room { length (view_of seat.old).hand < MAX_HAND }
+        ensures same { IsSameSeat seat.old seat.new }
+        ensures given { IsBack P.body borrow.family borrow.sv result (view_of seat.old) (view_of seat.new) }
     {
         let Borrow { family, sv } = borrow;
         let lane = seat.lane;
@@ -110,12 +111,12 @@ impl<P: Parts> Core<P> {
 
     /// Takes from the lane's slot what it caches.
     pub fn rest(&self, seat: &mut LaneSeat<P>, family: FamilyId) -> Option<SvRef<P::Body>>
-        requires table { seat.old.seat.table_id ≡ self.now.table.shared.table_id }
+        requires table { CameWith (table_of self.now) seat.old }
         requires family { family < 16 }
-        requires free { slot_of seat.old.seat.me.0 family ≡ away }
-        requires room { length seat.old.seat.me.0.hand < 65600 }
-        ensures same { (seat.new.seat.table_id ≡ seat.old.seat.table_id) × (seat.new.lane ≡ seat.old.lane) }
-        ensures rested { IsRested P.body family result seat.old.seat.me.0 seat.new.seat.me.0 }
+        requires free { slot_of (view_of seat.old) family ≡ away }
+        requires room { length (view_of seat.old).hand < MAX_HAND }
+        ensures same { IsSameSeat seat.old seat.new }
+        ensures rested { IsRested P.body family result (view_of seat.old) (view_of seat.new) }
     {
         let lane = seat.lane;
         self.rest_at(&mut seat.seat, lane, family.0)

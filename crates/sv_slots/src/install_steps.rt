@@ -7,7 +7,8 @@ ghost use Rattle.sv_rule.specs.SweepPlays.{Passed, Sweeps, Swept};
 ghost use Rattle.sv_rule.specs.Views.{opens};
 ghost use Rattle.sv_slots.specs.Seats.{CarriesNothing, IsLane, bodied};
 
-use crate::table::{Core, slot_home_of, slot_word_of};
+use crate::refs::COUNTS;
+use crate::table::{Core, MAX_HAND, slot_home_of, slot_word_of};
 use atomic_table::Seat;
 use std::marker::Brand;
 use sv_model::SvRef;
@@ -15,9 +16,6 @@ use sv_rule::{
     AddRound, At, Begun, Clean, Cleans, Create, Creates, EndCurrent, Ends, Parts, Pass, Stored,
     StoredOf, Swap, Swaps, Sweep, View,
 };
-
-/// The count in a reference word is below this number.
-const COUNTS: u64 = 1 << 32;
 
 impl<P: Parts> Core<P> {
     ghost use Rattle.sv_slots.specs.Installs.{IsSwept};
@@ -129,7 +127,7 @@ impl<P: Parts> Core<P> {
         requires at { (J.family ≡ family) × (J.lane ≡ lane) × (family < 16) × (lane < 32) }
         requires desk { (J.desk ≡ desk_of seat.old.me.0) × (J.old ≡ old_in J.desk.work) × (J.taken ≡ taken_in J.desk.work) }
         requires work { Sweeps seat.old.me.0 J.family J.lane false }
-        requires room { length seat.old.me.0.hand < 65600 }
+        requires room { length seat.old.me.0.hand < MAX_HAND }
         ensures same { (seat.new.table_id ≡ seat.old.table_id) × (seat.new.id ≡ seat.old.id) }
         ensures swept { Swept P.body J.desk J.family J.old J.lane J.taken seat.old.me result seat.new.me }
     {
@@ -163,7 +161,7 @@ impl<P: Parts> Core<P> {
         requires own { IsLane seat.old.me.0 own }
         requires at { (family < 16) × (lane < 32) }
         requires work { Sweeps seat.old.me.0 family lane false }
-        requires room { length seat.old.me.0.hand < 65600 }
+        requires room { length seat.old.me.0.hand < MAX_HAND }
         ensures same { (seat.new.table_id ≡ seat.old.table_id) × (seat.new.id ≡ seat.old.id) }
         ensures carried { seat.new.me.1 ≡ seat.old.me.1 }
         ensures swept { IsSwept P.body family lane result seat.old.me.0 seat.new.me.0 }

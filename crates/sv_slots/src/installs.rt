@@ -1,5 +1,5 @@
 // Installs, retirements and cleanups, under the DB lock.
-ghost use Rattle.std.specs.Prelude.{◌≡◌, ◌<◌, ◌≤◌, false, length};
+ghost use Rattle.std.specs.Prelude.{◌+◌, ◌≡◌, ◌<◌, ◌≤◌, false, length};
 ghost use Rattle.sv_model.specs.Lists.{Every};
 ghost use Rattle.sv_rule.specs.Blanks.{desk_of};
 ghost use Rattle.sv_rule.specs.Fits.{BodyFits};
@@ -8,11 +8,12 @@ ghost use Rattle.sv_rule.specs.ReferencePlays.{MayOpen, MaySettle, settled};
 ghost use Rattle.sv_rule.specs.RoundPlays.{MayEndCurrent};
 ghost use Rattle.sv_rule.specs.SweepPlays.{Sweeps};
 ghost use Rattle.sv_rule.specs.Views.{begun};
+ghost use Rattle.sv_slots.specs.Known.{CameWith, IsSameSeat, table_of, view_of};
 ghost use Rattle.sv_slots.specs.Seats.{bodied};
 
 use crate::picks::{Installing, Settling};
 use crate::refs::Owed;
-use crate::table::{Core, LaneSeat, word_of};
+use crate::table::{Core, LaneSeat, MAX_HAND, word_of};
 use std::marker::Brand;
 use sv_model::{FamilyId, SvRef};
 use sv_rule::Parts;
@@ -29,13 +30,13 @@ impl<P: Parts> Core<P> {
         family: FamilyId,
         new: &SvRef<P::Body>,
     ) -> u64
-        requires table { seat.old.seat.table_id ≡ self.now.table.shared.table_id }
+        requires table { CameWith (table_of self.now) seat.old }
         requires family { family < 16 }
-        requires may { MayOpen seat.old.seat.me.0 family (bodied P.body new.now) (P.books state.now) J.task }
+        requires may { MayOpen (view_of seat.old) family (bodied P.body new.now) (P.books state.now) J.task }
         requires olds { Every (BodyFits (P.books state.now)) J.olds }
-        requires room { length seat.old.seat.me.0.hand < 65599 }
-        ensures same { (seat.new.seat.table_id ≡ seat.old.seat.table_id) × (seat.new.lane ≡ seat.old.lane) }
-        ensures view { seat.new.seat.me.0 ≡ installed family (bodied P.body new.now) (P.books state.now) J.task J.olds result seat.old.seat.me.0 }
+        requires room { length (view_of seat.old).hand + 1 < MAX_HAND }
+        ensures same { IsSameSeat seat.old seat.new }
+        ensures view { view_of seat.new ≡ installed family (bodied P.body new.now) (P.books state.now) J.task J.olds result (view_of seat.old) }
         ensures was { NumberOk (P.books state.now) (begun family) family result }
     {
         let lane = seat.lane;
@@ -53,13 +54,13 @@ impl<P: Parts> Core<P> {
         state: &P::State,
         family: FamilyId,
     ) -> u64
-        requires table { seat.old.seat.table_id ≡ self.now.table.shared.table_id }
+        requires table { CameWith (table_of self.now) seat.old }
         requires family { family < 16 }
-        requires may { MayEndCurrent seat.old.seat.me.0 family (P.books state.now) J.task }
+        requires may { MayEndCurrent (view_of seat.old) family (P.books state.now) J.task }
         requires olds { Every (BodyFits (P.books state.now)) J.olds }
-        requires room { length seat.old.seat.me.0.hand < 65600 }
-        ensures same { (seat.new.seat.table_id ≡ seat.old.seat.table_id) × (seat.new.lane ≡ seat.old.lane) }
-        ensures view { seat.new.seat.me.0 ≡ retired family (P.books state.now) J.task J.olds result seat.old.seat.me.0 }
+        requires room { length (view_of seat.old).hand < MAX_HAND }
+        ensures same { IsSameSeat seat.old seat.new }
+        ensures view { view_of seat.new ≡ retired family (P.books state.now) J.task J.olds result (view_of seat.old) }
         ensures was { NumberOk (P.books state.now) (begun family) family result }
     {
         self.end_step::<Brand>(&mut seat.seat, state, family.0);
@@ -73,12 +74,12 @@ impl<P: Parts> Core<P> {
         family: FamilyId,
         lane: u8,
     ) -> Option<SvRef<P::Body>>
-        requires table { seat.old.seat.table_id ≡ self.now.table.shared.table_id }
+        requires table { CameWith (table_of self.now) seat.old }
         requires at { (family < 16) × (lane < 32) }
-        requires work { Sweeps seat.old.seat.me.0 family lane false }
-        requires room { length seat.old.seat.me.0.hand < 65600 }
-        ensures same { (seat.new.seat.table_id ≡ seat.old.seat.table_id) × (seat.new.lane ≡ seat.old.lane) }
-        ensures swept { IsSwept P.body family lane result seat.old.seat.me.0 seat.new.seat.me.0 }
+        requires work { Sweeps (view_of seat.old) family lane false }
+        requires room { length (view_of seat.old).hand < MAX_HAND }
+        ensures same { IsSameSeat seat.old seat.new }
+        ensures swept { IsSwept P.body family lane result (view_of seat.old) (view_of seat.new) }
     {
         let own = seat.lane;
         self.sweep_at(&mut seat.seat, own, family.0, lane)
@@ -87,10 +88,10 @@ impl<P: Parts> Core<P> {
     /// The reference word of a SuperVersion is free again, after its cleanup. The caller picks what the books have of
     /// its own, and the cells that are to be made vacant.
     pub fn settle<J: Settling>(&self, seat: &mut LaneSeat<P>, state: &P::State, owed: Owed)
-        requires table { seat.old.seat.table_id ≡ self.now.table.shared.table_id }
-        requires may { MaySettle seat.old.seat.me.0 owed.pack (P.books state.now) J.task J.cells }
-        ensures same { (seat.new.seat.table_id ≡ seat.old.seat.table_id) × (seat.new.lane ≡ seat.old.lane) }
-        ensures view { seat.new.seat.me.0 ≡ settled owed.pack (P.books state.now) J.task J.cells (desk_of seat.old.seat.me.0) seat.old.seat.me.0 }
+        requires table { CameWith (table_of self.now) seat.old }
+        requires may { MaySettle (view_of seat.old) owed.pack (P.books state.now) J.task J.cells }
+        ensures same { IsSameSeat seat.old seat.new }
+        ensures view { view_of seat.new ≡ settled owed.pack (P.books state.now) J.task J.cells (desk_of (view_of seat.old)) (view_of seat.old) }
     {
         let Owed { pack } = owed;
         self.settle_step::<Brand>(&mut seat.seat, state, word_of(pack));

@@ -3,11 +3,13 @@
 #![tactic(auto)]
 
 mod borrows;
+mod closings;
 mod install_steps;
 mod installs;
 mod lock_steps;
 mod locks;
 mod looks;
+mod openings;
 mod order;
 mod own_slots;
 mod picks;
@@ -17,6 +19,7 @@ mod steps;
 mod table;
 
 pub use borrows::{Back, Borrow, Miss};
+pub use openings::CoreError;
 pub use picks::{Installing, Settling};
 pub use refs::{Owed, Sub};
-pub use table::{Core, LaneSeat};
+pub use table::{Core, LaneSeat, MAX_HAND};

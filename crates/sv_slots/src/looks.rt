@@ -1,6 +1,7 @@
 // Loads of number words and of the round word.
 ghost use Rattle.std.specs.Prelude.{◌≡◌, ◌<◌};
 ghost use Rattle.sv_rule.specs.RoundPlays.{framed};
+ghost use Rattle.sv_slots.specs.Known.{CameWith, IsSameSeat, table_of, view_of};
 
 use crate::table::{Core, LaneSeat};
 use std::marker::Brand;
@@ -12,10 +13,10 @@ impl<P: Parts> Core<P> {
 
     /// Loads a number word. `None` is a family without a current.
     pub fn look(&self, seat: &mut LaneSeat<P>, family: FamilyId) -> Option<u64>
-        requires table { seat.old.seat.table_id ≡ self.now.table.shared.table_id }
+        requires table { CameWith (table_of self.now) seat.old }
         requires family { family < 16 }
-        ensures same { (seat.new.seat.table_id ≡ seat.old.seat.table_id) × (seat.new.lane ≡ seat.old.lane) }
-        ensures looked { IsLooked family result seat.old.seat.me.0 seat.new.seat.me.0 }
+        ensures same { IsSameSeat seat.old seat.new }
+        ensures looked { IsLooked family result (view_of seat.old) (view_of seat.new) }
     {
         let lane = seat.lane;
         let now = self.look_step::<Brand>(&mut seat.seat, lane, family.0);
@@ -27,9 +28,9 @@ impl<P: Parts> Core<P> {
 
     /// Loads the round word.
     pub fn round(&self, seat: &mut LaneSeat<P>) -> u64
-        requires table { seat.old.seat.table_id ≡ self.now.table.shared.table_id }
-        ensures same { (seat.new.seat.table_id ≡ seat.old.seat.table_id) × (seat.new.lane ≡ seat.old.lane) }
-        ensures framed { seat.new.seat.me.0 ≡ framed result seat.old.seat.me.0 }
+        requires table { CameWith (table_of self.now) seat.old }
+        ensures same { IsSameSeat seat.old seat.new }
+        ensures framed { view_of seat.new ≡ framed result (view_of seat.old) }
     {
         let lane = seat.lane;
         self.frame_step(&mut seat.seat, lane)

@@ -8,7 +8,7 @@ ghost use Rattle.sv_rule.specs.Views.{away, idle};
 ghost use Rattle.sv_slots.specs.Seats.{CarriesAt, CarriesNothing, HasDesk, IsLane, Lends, bodied};
 
 use crate::borrows::{Back, Miss};
-use crate::table::{Core, slot_home_of};
+use crate::table::{Core, MAX_HAND, slot_home_of};
 use atomic_table::Seat;
 use std::marker::Brand;
 use sv_model::SvRef;
@@ -27,7 +27,7 @@ impl<P: Parts> Core<P> {
         requires family { family < 16 }
         requires lane { IsLane seat.old.me.0 lane }
         requires free { slot_of seat.old.me.0 family ≡ away }
-        requires room { length seat.old.me.0.hand < 65600 }
+        requires room { length seat.old.me.0.hand < MAX_HAND }
         ensures same { (seat.new.table_id ≡ seat.old.table_id) × (seat.new.id ≡ seat.old.id) }
         ensures ok { IfOk result (λ sv. IsHit P.body family sv seat.old.me.0 seat.new.me.0 × CarriesAt (slot_home (spot lane family)) seat.old.me.1 seat.new.me.1) }
         ensures err { IfErr result (λ e. IsMiss P.body family e seat.old.me.0 seat.new.me.0 × (seat.new.me.1 ≡ seat.old.me.1)) }
@@ -83,7 +83,7 @@ impl<P: Parts> Core<P> {
         requires family { family < 16 }
         requires lane { IsLane seat.old.me.0 lane }
         requires free { slot_of seat.old.me.0 family ≡ away }
-        requires room { length seat.old.me.0.hand < 65600 }
+        requires room { length seat.old.me.0.hand < MAX_HAND }
         ensures same { (seat.new.table_id ≡ seat.old.table_id) × (seat.new.id ≡ seat.old.id) }
         ensures carried { seat.new.me.1 ≡ seat.old.me.1 }
         ensures rested { IsRested P.body family result seat.old.me.0 seat.new.me.0 }
@@ -118,7 +118,7 @@ impl<P: Parts> Core<P> {
         requires lent { Lends seat.old.me.0 family pack }
         requires known { In (bodied P.body sv) seat.old.me.0.known.bodies }
         requires front { CarriesNothing lane family seat.old.me.1 }
-        requires room { length seat.old.me.0.hand < 65600 }
+        requires room { length seat.old.me.0.hand < MAX_HAND }
         ensures same { (seat.new.table_id ≡ seat.old.table_id) × (seat.new.id ≡ seat.old.id) }
         ensures carried { seat.new.me.1 ≡ rest seat.old.me.1 }
         ensures given { IsBack P.body family sv result seat.old.me.0 seat.new.me.0 }

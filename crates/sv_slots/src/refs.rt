@@ -2,16 +2,17 @@
 ghost use Rattle.std.specs.Prelude.{◌≡◌, ◌<◌, ◌≤◌, IfErr, IfOk, length};
 ghost use Rattle.sv_model.specs.Lists.{same, total};
 ghost use Rattle.sv_rule.specs.ReferencePlays.{CanAdd, MayDropAt, added};
+ghost use Rattle.sv_slots.specs.Known.{CameWith, IsSameSeat, table_of, view_of};
 ghost use Rattle.sv_slots.specs.Seats.{bodied};
 
-use crate::table::{Core, LaneSeat, word_of};
+use crate::table::{Core, LaneSeat, MAX_HAND, word_of};
 use std::marker::Brand;
 use std::sync::Arc;
 use sv_model::{OutOfMemory, Pack, SvRef};
 use sv_rule::Parts;
 
 /// The count in a reference word is below this number.
-const COUNTS: u64 = 1 << 32;
+pub(crate) const COUNTS: u64 = 1 << 32;
 
 /// The cleanup of a SuperVersion whose last reference was dropped. It is moved and never copied.
 #[derive(Drop)]
@@ -43,12 +44,12 @@ impl<P: Parts> Core<P> {
         seat: &mut LaneSeat<P>,
         of: &SvRef<P::Body>,
     ) -> Result<SvRef<P::Body>, OutOfMemory>
-        requires table { seat.old.seat.table_id ≡ self.now.table.shared.table_id }
-        requires held { (256 ≤ of.now.pack) × CanAdd (bodied P.body of.now) seat.old.seat.me.0 }
-        requires room { length seat.old.seat.me.0.hand < 65600 }
-        ensures same { (seat.new.seat.table_id ≡ seat.old.seat.table_id) × (seat.new.lane ≡ seat.old.lane) }
-        ensures ok { IfOk result (λ r. (bodied P.body r ≡ bodied P.body of.now) × (seat.new.seat.me.0 ≡ added (bodied P.body of.now) seat.old.seat.me.0)) }
-        ensures err { IfErr result (λ _. seat.new.seat.me.0 ≡ seat.old.seat.me.0) }
+        requires table { CameWith (table_of self.now) seat.old }
+        requires held { (256 ≤ of.now.pack) × CanAdd (bodied P.body of.now) (view_of seat.old) }
+        requires room { length (view_of seat.old).hand < MAX_HAND }
+        ensures same { IsSameSeat seat.old seat.new }
+        ensures ok { IfOk result (λ r. (bodied P.body r ≡ bodied P.body of.now) × ((view_of seat.new) ≡ added (bodied P.body of.now) (view_of seat.old))) }
+        ensures err { IfErr result (λ _. (view_of seat.new) ≡ (view_of seat.old)) }
     {
         let body = Arc::try_clone(&of.body)?;
         let lane = seat.lane;
@@ -61,12 +62,12 @@ impl<P: Parts> Core<P> {
 
     /// Drops a reference that is in the lane's hand.
     pub fn drop_ref(&self, seat: &mut LaneSeat<P>, held: SvRef<P::Body>) -> Sub
-        requires table { seat.old.seat.table_id ≡ self.now.table.shared.table_id }
-        requires held { (256 ≤ held.pack) × (0 < total (same held.pack) seat.old.seat.me.0.hand) }
-        requires may { MayDropAt held.pack seat.old.seat.me.0.seat.lanes seat.old.seat.me.0.hand seat.old.seat.me.0.locks.db }
-        ensures same { (seat.new.seat.table_id ≡ seat.old.seat.table_id) × (seat.new.lane ≡ seat.old.lane) }
-        ensures view { IsDropped held.pack result seat.old.seat.me.0 seat.new.seat.me.0 }
-        ensures more { NotLast held.pack result seat.old.seat.me.0 }
+        requires table { CameWith (table_of self.now) seat.old }
+        requires held { (256 ≤ held.pack) × (0 < total (same held.pack) (view_of seat.old).hand) }
+        requires may { MayDropAt held.pack (view_of seat.old).seat.lanes (view_of seat.old).hand (view_of seat.old).locks.db }
+        ensures same { IsSameSeat seat.old seat.new }
+        ensures view { IsDropped held.pack result (view_of seat.old) (view_of seat.new) }
+        ensures more { NotLast held.pack result (view_of seat.old) }
     {
         let SvRef { pack, body } = held;
         drop(body);

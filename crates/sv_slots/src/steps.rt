@@ -9,7 +9,7 @@ ghost use Rattle.sv_rule.specs.ReferencePlays.{CanAdd, Dropped, MayDropAt, added
 ghost use Rattle.sv_rule.specs.RoundPlays.{framed};
 ghost use Rattle.sv_slots.specs.Seats.{CarriesNothing, CarriesRef, IsLane, Lends, bodied};
 
-use crate::table::{Core, slot_word_of};
+use crate::table::{Core, MAX_HAND, slot_word_of};
 use atomic_table::Seat;
 use sv_model::SvRef;
 use sv_rule::{
@@ -76,7 +76,7 @@ impl<P: Parts> Core<P> {
         requires lane { IsLane seat.old.me.0 lane }
         requires held { slot_of seat.old.me.0 J.family ≡ held K.pack }
         requires front { CarriesNothing lane J.family seat.old.me.1 }
-        requires room { length seat.old.me.0.hand < 65600 }
+        requires room { length seat.old.me.0.hand < MAX_HAND }
         ensures same { (seat.new.table_id ≡ seat.old.table_id) × (seat.new.id ≡ seat.old.id) }
         ensures rested { seat.new.me ≡ (counted 0 _count 0 (rested J.family _pack seat.old.me.0), rest seat.old.me.1) }
     {
@@ -115,7 +115,7 @@ impl<P: Parts> Core<P> {
         requires bodied { J.bodied ≡ bodied P.body _of.now }
         requires pack { (pack ≡ _of.now.pack) × (256 ≤ pack) }
         requires held { CanAdd (bodied P.body _of.now) seat.old.me.0 }
-        requires room { length seat.old.me.0.hand < 65600 }
+        requires room { length seat.old.me.0.hand < MAX_HAND }
         ensures same { (seat.new.table_id ≡ seat.old.table_id) × (seat.new.id ≡ seat.old.id) }
         ensures added { seat.new.me ≡ (added (bodied P.body _of.now) seat.old.me.0, seat.old.me.1) }
     {

@@ -10,6 +10,9 @@ use std::alloc::Global;
 use sv_model::Pack;
 use sv_rule::{Opening, Parts, Rule, StoredOf, View};
 
+/// So many references a lane has in hand at most.
+pub const MAX_HAND: usize = 65_600;
+
 /// So many slots a lane has room to carry: of its own 16, and with three locks.
 pub(crate) const MAX_CARRIED: usize = 24;
 

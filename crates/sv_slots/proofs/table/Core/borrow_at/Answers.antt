@@ -1,6 +1,6 @@
 use Rattle.std.proofs.Common.{ap, refl, rules, ◌∙◌, ◌∷◌}
 use Rattle.atomic_table.specs.Table.{rest}
-use Rattle.sv_slots.proofs.Slots.{carries, empty_held, empty_rest, hits, marked_use, stale_front, stale_held, stales}
+use Rattle.sv_slots.proofs.BorrowSteps.{carries, empty_held, empty_rest, hits, marked_use, stale_front, stale_held, stales}
 use Rattle.sv_slots.proofs.table.Core.borrow_at.Goals as goal
 
 pub rest_step-requires-clause-held : goal.rest_step-requires-clause-held

@@ -1,6 +1,7 @@
 use Rattle.std.proofs.Common.{ap, arith}
 use Rattle.sv_model.specs.Lists.{at}
-use Rattle.sv_slots.proofs.Carrying.{carries_few, carries_taken, carry, lane_stands, seated}
+use Rattle.sv_slots.proofs.CallCarrying.{carries_taken, lane_stands, seated}
+use Rattle.sv_slots.proofs.Carrying.{carries_few, carry}
 use Rattle.sv_slots.proofs.table.Core.borrow_locked.Goals as goal
 
 pub insert-requires : goal.insert-requires

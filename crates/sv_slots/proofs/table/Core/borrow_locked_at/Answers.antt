@@ -1,4 +1,4 @@
-use Rattle.sv_slots.proofs.Slots.{borrows_locked}
+use Rattle.sv_slots.proofs.BorrowSteps.{borrows_locked}
 use Rattle.sv_slots.proofs.table.Core.borrow_locked_at.Goals as goal
 
 pub returns-clause-view : goal.returns-clause-view

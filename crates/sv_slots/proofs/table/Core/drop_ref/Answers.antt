@@ -1,5 +1,5 @@
 use Rattle.std.proofs.Common.{ap, ◌∙◌}
-use Rattle.sv_slots.proofs.Carrying.{beside, carries_desk, lane_stands, lowers-count, seated}
+use Rattle.sv_slots.proofs.CallCarrying.{beside, carries_desk, lane_stands, lowers-count, seated}
 use Rattle.sv_rule.specs.Tasks.{some_count}
 use Rattle.sv_slots.proofs.table.Core.drop_ref.Goals as goal
 

@@ -2,7 +2,8 @@ use Rattle.std.proofs.Common.{ap, subst, sym, ℕ, ◌<◌, ◌∙◌, length}
 use Rattle.sv_rule.specs.Table.{slot_home, slot_of, spot}
 use Rattle.sv_rule.specs.Views.{LaneView}
 use Rattle.sv_slots.specs.Carried.{ahead}
-use Rattle.sv_slots.proofs.Carrying.{back_parts, carries_given, carries_lent, lane_stands}
+use Rattle.sv_slots.proofs.CallCarrying.{back_parts, carries_given, lane_stands}
+use Rattle.sv_slots.proofs.Carrying.{carries_lent}
 use Rattle.sv_slots.proofs.table.Core.give_back.Goals as goal
 
 pub bring-requires : goal.bring-requires

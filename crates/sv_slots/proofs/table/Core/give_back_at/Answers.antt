@@ -1,6 +1,6 @@
 use Rattle.std.proofs.Common.{ap, arith, rules, ◌∙◌, ◌∷◌}
 use Rattle.atomic_table.specs.Table.{rest}
-use Rattle.sv_slots.proofs.Slots.{kept_given, lies, same_given, still, still_front, still_held, swept_given}
+use Rattle.sv_slots.proofs.GiveBackSteps.{kept_given, lies, same_given, still, still_front, still_held, swept_given}
 use Rattle.sv_slots.proofs.table.Core.give_back_at.Goals as goal
 
 pub put_step-found-requires-clause-front : goal.put_step-found-requires-clause-front

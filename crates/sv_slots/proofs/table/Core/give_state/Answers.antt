@@ -1,7 +1,7 @@
 use Rattle.std.proofs.Common.{ap, subst, sym, ◌∙◌}
 use Rattle.sv_rule.specs.LockPlays.{MayGiveDb}
 use Rattle.sv_rule.specs.Views.{LaneView}
-use Rattle.sv_slots.proofs.Carrying.{lane_stands, seated}
+use Rattle.sv_slots.proofs.CallCarrying.{lane_stands, seated}
 use Rattle.sv_slots.proofs.LockCarrying.{gives_state, has_state}
 use Rattle.sv_slots.proofs.table.Core.give_state.Goals as goal
 

@@ -4,8 +4,9 @@ use Rattle.sv_model.specs.Lists.{at}
 use Rattle.sv_rule.specs.Table.{slot_of}
 use Rattle.sv_rule.specs.Views.{away}
 use Rattle.sv_slots.specs.Borrows.{IsLooked, word_of}
-use Rattle.sv_slots.proofs.Carrying.{carries_still, carry, lane_stands, seated}
-use Rattle.sv_slots.proofs.Slots.{checked_same, none_pos, sees, some_of, some_of_is, some_of_pos, some_pos}
+use Rattle.sv_slots.proofs.CallCarrying.{lane_stands, seated}
+use Rattle.sv_slots.proofs.Carrying.{carries_still, carry}
+use Rattle.sv_slots.proofs.LookSteps.{checked_same, none_pos, sees, some_of, some_of_is, some_of_pos, some_pos}
 use Rattle.sv_slots.proofs.table.Core.look.Goals as goal
 
 pub invariant_of-seat : goal.invariant_of-seat

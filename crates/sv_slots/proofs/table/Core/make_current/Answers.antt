@@ -1,8 +1,8 @@
-use Rattle.std.proofs.Common.{ap, subst, sym, ℕ, ◌∙◌}
+use Rattle.std.proofs.Common.{ap, arith, subst, sym, ℕ, ◌∙◌}
 use Rattle.sv_rule.specs.Numbers.{NumberOk}
 use Rattle.sv_rule.specs.ReferencePlays.{MayOpen}
 use Rattle.sv_rule.specs.Views.{begun}
-use Rattle.sv_slots.proofs.Carrying.{carries_desk, lane_stands}
+use Rattle.sv_slots.proofs.CallCarrying.{carries_desk, lane_stands}
 use Rattle.sv_slots.proofs.Installed.{begins, install_carried, install_was, installed_works, is_installed, may_swap}
 use Rattle.sv_slots.specs.Installs.{installed}
 use Rattle.sv_slots.specs.Seats.{bodied}
@@ -31,7 +31,7 @@ number_step-requires-clause-may g c =
     let may = subst (λ (z : ℕ). MayOpen m.0 z x b g.J.Installing.task) (sym c.family.view_is) c.requires.may in
     may_swap f c.word_of-pack.result x b g.J.Installing.task g.J.Installing.olds m c.open_step.new.seat.me
     c.round_step.new.seat.me may c.open_step.ensures.opened c.round_step.ensures.rounded c.word_of-pack.ensures.value
-    c.requires.olds c.requires.room
+    c.requires.olds (omega (arith, c.requires.room))
 
 pub returns-clause-view : goal.returns-clause-view
 returns-clause-view g c =

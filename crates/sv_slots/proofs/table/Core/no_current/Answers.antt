@@ -2,7 +2,7 @@ use Rattle.std.proofs.Common.{ap, subst, sym, ℕ, ◌∙◌}
 use Rattle.sv_rule.specs.Numbers.{NumberOk}
 use Rattle.sv_rule.specs.RoundPlays.{MayEndCurrent}
 use Rattle.sv_rule.specs.Views.{begun}
-use Rattle.sv_slots.proofs.Carrying.{carries_desk, lane_stands}
+use Rattle.sv_slots.proofs.CallCarrying.{carries_desk, lane_stands}
 use Rattle.sv_slots.proofs.Installed.{is_retired_now, may_swap_none, retire_carried, retire_was, retired_works}
 use Rattle.sv_slots.specs.Installs.{retired}
 use Rattle.sv_slots.proofs.table.Core.no_current.Goals as goal

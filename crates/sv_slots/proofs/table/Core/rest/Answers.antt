@@ -1,4 +1,4 @@
-use Rattle.sv_slots.proofs.Carrying.{carries_away, lane_stands, rested_parts}
+use Rattle.sv_slots.proofs.CallCarrying.{carries_away, lane_stands, rested_parts}
 use Rattle.sv_slots.proofs.table.Core.rest.Goals as goal
 
 pub invariant_of-seat : goal.invariant_of-seat

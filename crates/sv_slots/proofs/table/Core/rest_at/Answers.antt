@@ -1,6 +1,7 @@
 use Rattle.std.proofs.Common.{ap, refl, rules, ◌∙◌, ◌∷◌}
 use Rattle.atomic_table.specs.Table.{rest}
-use Rattle.sv_slots.proofs.Slots.{carries, empty_held, empty_rest, marked_use, none_counted, rest_done, rest_front, rest_held}
+use Rattle.sv_slots.proofs.BorrowSteps.{carries, empty_held, empty_rest, marked_use, rest_done, rest_front, rest_held}
+use Rattle.sv_slots.proofs.SlotSteps.{none_counted}
 use Rattle.sv_rule.specs.SlotPlays.{slotted}
 use Rattle.sv_rule.specs.Views.{away}
 use Rattle.sv_slots.proofs.table.Core.rest_at.Goals as goal

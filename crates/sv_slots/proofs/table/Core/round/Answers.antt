@@ -1,6 +1,6 @@
 use Rattle.std.proofs.Common.{ap}
 use Rattle.sv_rule.specs.Tasks.{some_count}
-use Rattle.sv_slots.proofs.Carrying.{beside, carries_desk, lane_stands, seated}
+use Rattle.sv_slots.proofs.CallCarrying.{beside, carries_desk, lane_stands, seated}
 use Rattle.sv_slots.proofs.table.Core.round.Goals as goal
 
 pub invariant_of-seat : goal.invariant_of-seat

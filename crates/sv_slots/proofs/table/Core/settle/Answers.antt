@@ -1,6 +1,6 @@
 use Rattle.std.proofs.Common.{ap, subst, sym, ℕ}
 use Rattle.sv_rule.specs.ReferencePlays.{MaySettle}
-use Rattle.sv_slots.proofs.Carrying.{carries_desk, lane_stands}
+use Rattle.sv_slots.proofs.CallCarrying.{carries_desk, lane_stands}
 use Rattle.sv_slots.proofs.Installed.{settled_works}
 use Rattle.sv_slots.proofs.table.Core.settle.Goals as goal
 

@@ -1,6 +1,6 @@
 use Rattle.std.proofs.Common.{false, subst, sym, ℕ}
 use Rattle.sv_rule.specs.SweepPlays.{Sweeps}
-use Rattle.sv_slots.proofs.Carrying.{carries_desk, lane_stands}
+use Rattle.sv_slots.proofs.CallCarrying.{carries_desk, lane_stands}
 use Rattle.sv_slots.proofs.Installed.{swept_works}
 use Rattle.sv_slots.proofs.table.Core.sweep.Goals as goal
 

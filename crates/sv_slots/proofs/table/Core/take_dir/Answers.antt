@@ -1,5 +1,6 @@
 use Rattle.std.proofs.Common.{ap, arith}
-use Rattle.sv_slots.proofs.Carrying.{carries_few, lane_stands, seated}
+use Rattle.sv_slots.proofs.CallCarrying.{lane_stands, seated}
+use Rattle.sv_slots.proofs.Carrying.{carries_few}
 use Rattle.sv_slots.proofs.LockCarrying.{takes_dir}
 use Rattle.sv_slots.proofs.table.Core.take_dir.Goals as goal
 

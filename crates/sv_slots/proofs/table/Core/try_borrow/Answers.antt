@@ -1,6 +1,7 @@
 use Rattle.std.proofs.Common.{ap, arith}
 use Rattle.sv_model.specs.Lists.{at}
-use Rattle.sv_slots.proofs.Carrying.{carries_away, carries_few, carries_taken, carry, lane_stands, missed_parts, seated}
+use Rattle.sv_slots.proofs.CallCarrying.{carries_away, carries_taken, lane_stands, missed_parts, seated}
+use Rattle.sv_slots.proofs.Carrying.{carries_few, carry}
 use Rattle.sv_slots.proofs.table.Core.try_borrow.Goals as goal
 
 pub insert-requires : goal.insert-requires

@@ -1,7 +1,7 @@
 use Rattle.std.proofs.Common.{ap, subst, sym, ◌∙◌}
 use Rattle.sv_rule.specs.LockPlays.{MayWriteCell}
 use Rattle.sv_rule.specs.Views.{LaneView}
-use Rattle.sv_slots.proofs.Carrying.{lane_stands, seated}
+use Rattle.sv_slots.proofs.CallCarrying.{lane_stands, seated}
 use Rattle.sv_slots.proofs.LockCarrying.{has_cell, writes_cell}
 use Rattle.sv_slots.specs.Carried.{ahead}
 use Rattle.sv_rule.specs.Table.{cell_word}

@@ -1,5 +1,5 @@
 use Rattle.std.proofs.Common.{List, [], ap, arith, ℕ, ◌++◌, ◌∙◌, ◌∷◌}
-use Rattle.sv_slots.proofs.Carrying.{lane_stands, seated}
+use Rattle.sv_slots.proofs.CallCarrying.{lane_stands, seated}
 use Rattle.sv_slots.proofs.Turns.{carries_from, rotated_by}
 use Rattle.sv_slots.proofs.table.LaneSeat.turn.Goals as goal
 
