@@ -105,7 +105,7 @@ module _ {S D C B : Type 0} (books : S → Books) (disk : D → Disk) (cell : C 
       (sym e) (gives_db books disk cell body n id (m.0, (0, is.State st) ∷ rest m.1) (rest m.1) st u may refl)
 
   pub gives_directory : (y : D) (u : Task) (reads : List FileRead) (names : List (List ℕ)) (lists rise : ℕ)
-      → m₁ ≡ (m.0, (1, is.Dir y) ∷ rest m.1) → MayGiveDir m.0 (disk y) u reads rise
+      → m₁ ≡ (m.0, (1, is.Dir y) ∷ rest m.1) → MayGiveDir m.0 (disk y) u reads names lists rise
       → Allows (Kept books disk cell body) n id m₁ 1 (λ _. 0) (GaveDir u reads names lists rise m₁)
   gives_directory y u reads names lists rise e may = subst
       (λ (z : Me (Stored S D C B) LaneView). Allows (Kept books disk cell body) n id z 1 (λ _. 0)

@@ -101,7 +101,7 @@ impl<P: Parts> Core<P> {
 
     pub(crate) fn give_dir_at<J: Reports>(&self, seat: &mut Seat<StoredOf<P>, View>, dir: P::Dir)
         requires table { seat.old.table_id ≡ self.now.table.shared.table_id }
-        requires lock { MayGiveDir seat.old.me.0 (P.disk dir) J.task J.reads J.rise }
+        requires lock { MayGiveDir seat.old.me.0 (P.disk dir) J.task J.reads J.names J.lists J.rise }
         requires front { StartsAt 1 seat.old.me.1 }
         ensures same { (seat.new.table_id ≡ seat.old.table_id) × (seat.new.id ≡ seat.old.id) }
         ensures gave { seat.new.me ≡ (gave_dir J.task J.reads J.names J.lists J.rise seat.old.me.0, rest seat.old.me.1) }

@@ -51,7 +51,7 @@ impl<P: Parts> Core<P> {
     /// Gives the directory back, and its lock. The caller picks what it did to it.
     pub fn give_dir<J: Reports>(&self, seat: &mut LaneSeat<P>, dir: P::Dir)
         requires table { CameWith (table_of self.now) seat.old }
-        requires lock { MayGiveDir (view_of seat.old) (P.disk dir) J.task J.reads J.rise }
+        requires lock { MayGiveDir (view_of seat.old) (P.disk dir) J.task J.reads J.names J.lists J.rise }
         ensures same { IsSameSeat seat.old seat.new }
         ensures gave { view_of seat.new ≡ gave_dir J.task J.reads J.names J.lists J.rise (view_of seat.old) }
     {

@@ -9,7 +9,7 @@ pub bring-requires : goal.bring-requires
 bring-requires g c = let s = c.args.seat.now in has_dir s.seat.me.0 s.seat.me.1 s.out.items s.carried c.requires.lock.found c.requires.lock.has
 
 pub give_dir_at-requires-clause-lock : goal.give_dir_at-requires-clause-lock
-give_dir_at-requires-clause-lock g c = subst (λ (z : LaneView). MayGiveDir z (g.P.Parts.disk c.args.dir) g.J.Reports.task g.J.Reports.reads g.J.Reports.rise) (sym c.bring.ensures.same.2) c.requires.lock
+give_dir_at-requires-clause-lock g c = subst (λ (z : LaneView). MayGiveDir z (g.P.Parts.disk c.args.dir) g.J.Reports.task g.J.Reports.reads g.J.Reports.names g.J.Reports.lists g.J.Reports.rise) (sym c.bring.ensures.same.2) c.requires.lock
 
 pub invariant_of-seat : goal.invariant_of-seat
 invariant_of-seat g c =
