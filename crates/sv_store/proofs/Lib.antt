@@ -7,3 +7,4 @@ mod OpeningLaws
 mod CallLaws
 mod SwitchLaws
 mod VacantCells
+mod WriteLaws

@@ -12,5 +12,6 @@ mod openings;
 mod snapshots;
 mod store;
 mod switches;
+mod writes;
 
 pub use store::Store;
