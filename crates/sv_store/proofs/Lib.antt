@@ -1,0 +1,10 @@
+mod CellLaws
+mod StandLaws
+mod FrameLaws
+mod ActiveCells
+mod StillLaws
+mod OpeningLaws
+mod CallLaws
+mod SwitchLaws
+mod VacantCells
+mod WriteLaws

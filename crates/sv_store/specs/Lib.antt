@@ -1,0 +1,7 @@
+pub mod Cells
+pub mod Going
+pub mod Opening
+pub mod Seen
+pub mod Standing
+pub mod Views
+pub mod Writing
