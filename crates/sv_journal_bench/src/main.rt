@@ -8,8 +8,8 @@ use std::alloc::{AllocError, Global};
 use std::env;
 use std::io::ErrorKind;
 use std::process::ExitCode;
-use sv_journal::{Journal, MAX_WRITES};
-use sv_model::{FamilyId, GREATEST_KEY, GREATEST_VALUE, Key, MemId, Op, Refusal, Value, Write};
+use sv_journal::Journal;
+use sv_model::{FamilyId, Key, MAX_KEY, MAX_VALUE, MAX_WRITES, MemId, Op, Refusal, Value, Write};
 
 const USAGE: &str =
     "usage: sv_journal_bench WRITES KEY VALUE, with keys of 1 to 64 bytes and values of 0 to 1024";
@@ -50,10 +50,10 @@ fn asked(words: &[String]) -> Option<Task> {
 fn write(alloc: Global, task: Task) -> Result<Write, Refusal>
     ensures { IfOk result (λ write. write.family < 16) }
 {
-    let key = [b'k'; GREATEST_KEY];
-    let value = [b'v'; GREATEST_VALUE];
-    let key = &key[..task.key.min(GREATEST_KEY)];
-    let value = &value[..task.value.min(GREATEST_VALUE)];
+    let key = [b'k'; MAX_KEY];
+    let value = [b'v'; MAX_VALUE];
+    let key = &key[..task.key.min(MAX_KEY)];
+    let value = &value[..task.value.min(MAX_VALUE)];
     Ok(Write {
         family: FamilyId(0),
         key: Key::new(alloc, key)?,
