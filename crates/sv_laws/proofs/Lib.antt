@@ -39,3 +39,4 @@ pub mod Opened
 pub mod Snapped
 pub mod Handles
 pub mod Kept
+pub mod ObsoleteNumbers
