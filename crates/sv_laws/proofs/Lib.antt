@@ -36,3 +36,4 @@ pub mod Opened
 pub mod Snapped
 pub mod Handles
 pub mod Kept
+pub mod ObsoleteNumbers

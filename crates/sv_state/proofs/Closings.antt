@@ -24,8 +24,10 @@ use Rattle.sv_objects.specs.declared.bodies.Body.{Body}
 use Rattle.sv_objects.specs.declared.objects.Objects.{Objects}
 use Rattle.sv_objects.specs.Cleanups.{CanClean, with_objects}
 use Rattle.sv_state.specs.Currents.{CanEnd, HasCurrentAt}
-use Rattle.sv_state.specs.Gone.{IsFree, IsLastOr}
-use Rattle.sv_state.specs.Refs.{IsKept, IsState}
+use Rattle.sv_state.specs.declared.installs.Install.{Install}
+use Rattle.sv_state.specs.Gone.{IsFree, IsLastOr, TellsEnd}
+use Rattle.sv_state.specs.Refs.{AreKept, IsKept, IsState}
+use Rattle.sv_state.proofs.References.{old-ref}
 use Rattle.sv_state.proofs.Stays.{kept-stays}
 
 -- a call that changes what one family has on top
@@ -60,6 +62,14 @@ end-changes a k f can T e = record {
 
 pub end-law : (a b : Books) (k : Sound a) (f : ℕ) → IsCurrentEnded a b f → Sound b × After a b
 end-law a b k f h = sound-kept a b k (current_ended f h)
+
+-- the install of a family that has none any more
+pub ended-tells : (a : Books) (held : List (Option (SvRef Body))) → AreKept a held → (f : ℕ) (r : Option (SvRef Body)) → slice_get held f ≡ Some r
+    → (install : Install) → install.family ≡ f → install.old ≡ r → install.vacant ≡ None → TellsEnd a install
+ended-tells a held kept f r e install family old vacant = record {
+  old = λ t at. subst (IsKept a t.current) (sym old) (old-ref a held kept f r e t (ap (slice_get a.tops) (sym family) ∙ at));
+  vacant = vacant;
+}
 
 -- ---- a current that is asked for
 

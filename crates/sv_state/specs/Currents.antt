@@ -3,8 +3,10 @@ use Rattle.std.specs.Prelude.{◌≡◌, cond, ℕ, false, List, Option, Some, N
 use Rattle.sv_model.specs.declared.records.Family.{Family}
 use Rattle.sv_model.specs.declared.records.Top.{Top}
 use Rattle.sv_model.specs.declared.settings.Options.{Options}
-use Rattle.sv_model.specs.Books.{Books}
+use Rattle.sv_model.specs.Books.{Books, files_of}
 use Rattle.sv_model.specs.Families.{IsOwn}
+use Rattle.sv_model.specs.Lists.{In}
+use Rattle.sv_model.specs.Named.{numbers_of}
 
 -- the family was made, and has a current
 pub record HasCurrentAt (b : Books) (family : ℕ) : Type 0 where
@@ -24,6 +26,12 @@ pub record StandsAt (b : Books) (family : ℕ) : Type 0 where
   pub stands : it.dropped ≡ false
   pub top : Top
   pub on : slice_get b.tops family ≡ Some top
+
+-- the file of this number is one of the last Version of a family that is not dropped
+pub record IsShownFile (b : Books) (number : ℕ) : Type 0 where
+  pub family : ℕ
+  pub stands : StandsAt b family
+  pub has : In number (numbers_of (files_of b.versions stands.top.last))
 
 -- the name and the options of a family that is not dropped
 abbrev pub kept_of : Option Family → Option (List ℕ × Options)

@@ -9,11 +9,18 @@ use Rattle.sv_model.specs.Named.{HasLast}
 use Rattle.sv_model.specs.Registers.{entry}
 use Rattle.sv_laws.specs.Cleaning.{AreCellsGone, IsCleaned}
 use Rattle.sv_laws.specs.Families.{IsReleased, IsRetired}
+use Rattle.sv_state.specs.declared.installs.Install.{Install}
+use Rattle.sv_state.specs.Refs.{IsKept}
 
 -- The lane has no handle of the name any more. The family is retired by it where it is given.
 abbrev pub IsReleasedAs : Books → Books → ℕ → List ℕ → Option ℕ → Type 0
 IsReleasedAs a b lane name None = (f : ℕ) × (x : Family) × (slice_get a.families f ≡ Some x) × IsOwn lane name x × IsReleased a b f lane
 IsReleasedAs a b lane name (Some f) = (x : Family) × (slice_get a.families f ≡ Some x) × IsOwn lane name x × IsRetired a b f lane
+
+-- The install has the reference of the current that the family had, and no cell for a new memtable.
+pub record TellsEnd (a : Books) (install : Install) : Type 0 where
+  pub old : (t : Top) → slice_get a.tops install.family ≡ Some t → IsKept a t.current install.old
+  pub vacant : install.vacant ≡ None
 
 -- the pack is that of a Live SuperVersion that is current of no family
 pub record IsFree (b : Books) (pack : ℕ) : Type 0 where

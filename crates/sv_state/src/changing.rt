@@ -1,5 +1,5 @@
 // An option is set, and a family is made.
-ghost use Rattle.std.specs.Prelude.{◌≡◌, ◌<◌, ◌∷◌, [], ℕ, IfOk, OnErr, Some, length};
+ghost use Rattle.std.specs.Prelude.{◌≡◌, ◌<◌, ◌∷◌, [], ℕ, IfOk, OnErr, None, Some, length};
 ghost use Rattle.sv_model.specs.Refusals.{Refuses, first_due};
 ghost use Rattle.sv_cells.specs.Calls.{memtables_refusal};
 ghost use Rattle.sv_registry.specs.Calls.{make_refusal};
@@ -32,6 +32,7 @@ impl State {
         requires current { OwnHaveCurrents self.old.books lane name.now }
         ensures set { IfOk result (λ install. IsSet self.old.books self.new.books lane name.now option value install.family) }
         ensures tells { IfOk result (λ install. Tells self.old.books self.new.books install.family install) }
+        ensures vacant { IfOk result (λ install. install.vacant ≡ None) }
         ensures refused { Refuses (first_due (set_refusal self.old.books.families lane name.now option value ∷ make_refusal self.old.books.supers ∷ [])) result }
         ensures kept { OnErr result (self.new ≡ self.old) }
         ensures spare { self.new.spare ≡ self.old.spare }
@@ -69,6 +70,7 @@ impl State {
         requires { lane < 32 }
         ensures made { IfOk result (λ _. IsFamilyMade self.old.books self.new.books (new_family lane name.now)) }
         ensures tells { IfOk result (TellsSwitch self.old.books self.new.books (length self.old.books.families)) }
+        ensures first { IfOk result (λ install. install.old ≡ None) }
         ensures refused { Refuses (first_due (create_refusal self.old.books.families lane name.now ∷ memtables_refusal self.old.books.memtables ∷ make_refusal self.old.books.supers ∷ [])) result }
         ensures kept { OnErr result (self.new ≡ self.old) }
         ensures spare { self.new.spare ≡ self.old.spare }

@@ -1,12 +1,12 @@
 // A family has no current any more, and a SuperVersion goes.
-ghost use Rattle.std.specs.Prelude.{◌≡◌, ◌<◌, ◌↔◌, IfOk, IsTrue, OnErr, length};
+ghost use Rattle.std.specs.Prelude.{◌≡◌, ◌<◌, ◌↔◌, IfOk, IfSome, IsTrue, OnErr, length};
 ghost use Rattle.std.specs.Option.{option_map};
 ghost use Rattle.sv_model.specs.Refusals.{RefusesExactly};
 ghost use Rattle.sv_laws.specs.Families.{IsCurrentEnded};
 ghost use Rattle.sv_family.specs.Refused.{release_refusal};
 ghost use Rattle.sv_state.specs.Currents.{CanEnd, OwnHaveCurrents};
 ghost use Rattle.sv_state.specs.Follows.{Follows};
-ghost use Rattle.sv_state.specs.Gone.{IsFree, IsLastOr, IsReleasedAs, SuperGoes};
+ghost use Rattle.sv_state.specs.Gone.{IsFree, IsLastOr, IsReleasedAs, SuperGoes, TellsEnd};
 
 use crate::installs::{Install, take_current};
 use crate::state::State;
@@ -22,6 +22,7 @@ impl State {
         requires lane { lane < 32 }
         requires current { OwnHaveCurrents self.old.books lane name.now }
         ensures released { IfOk result (λ install. IsReleasedAs self.old.books self.new.books lane name.now (option_map (λ i. i.family) install)) }
+        ensures tells { IfOk result (λ install. IfSome install (TellsEnd self.old.books)) }
         ensures refused { RefusesExactly (release_refusal self.old.books.families lane name.now) result }
         ensures kept { OnErr result (self.new ≡ self.old) }
         ensures spare { self.new.spare ≡ self.old.spare }
@@ -43,6 +44,7 @@ impl State {
         requires { CanEnd self.old.books family }
         ensures ended { IsCurrentEnded self.old.books self.new.books family }
         ensures family { result.family ≡ family }
+        ensures tells { TellsEnd self.old.books result }
         ensures spare { self.new.spare ≡ self.old.spare }
         ensures follows { Follows self.old.books self.new.books }
     {

@@ -1,9 +1,10 @@
 // A flush and a compaction end: their file is the family's from then on, or it is given up.
-ghost use Rattle.std.specs.Prelude.{◌≡◌, ◌<◌, ◌≤◌, ◌∷◌, [], ℕ, true, false, IfOk, IsTrue, OnErr, Some, length, slice_get, ◌↔◌};
+ghost use Rattle.std.specs.Prelude.{◌≡◌, ◌<◌, ◌≤◌, ◌∷◌, [], ℕ, true, false, IfOk, IsTrue, OnErr, None, Some, length, slice_get, ◌↔◌};
 ghost use Rattle.sv_model.specs.declared.records.Memtable.{Memtable};
 ghost use Rattle.sv_model.specs.declared.records.MemtableList.{MemtableList};
 ghost use Rattle.sv_model.specs.declared.records.Version.{Version};
 ghost use Rattle.sv_model.specs.Named.{HasFile, IsLiveList, IsLiveVersion};
+ghost use Rattle.sv_model.specs.Numbers.{IsCaptured};
 ghost use Rattle.sv_model.specs.Ranges.{FilesJoin};
 ghost use Rattle.sv_model.specs.Refusals.{Refuses, first_due};
 ghost use Rattle.sv_model.specs.Registers.{Has, entry};
@@ -19,27 +20,29 @@ use crate::installs::{Install, body_at, put_current};
 use crate::state::State;
 use std::alloc::Global;
 use sv_cells::MemtableRegister;
-use sv_files::Settled;
+use sv_files::{FileBook, Settled};
 use sv_imm::MAX_LISTS;
-use sv_model::{FamilyId, FileMeta, MemId, Refusal, SvRef};
+use sv_model::{FamilyId, FileMeta, FileNumber, MemId, Refusal, SvRef};
 use sv_objects::{Body, Held, Objects};
 use sv_version::MAX_VERSIONS;
 
 impl State {
-    /// Ends the family's flush: the file is the last of a new Version, and a new list is without just the memtables that
+    /// Ends a flush: the file is the last of a new Version, and a new list is without just the memtables that
     /// it covers. Refused as `Dropped`, `RegisterFull` and `TooManyLive`; then the file is given up, so that its number
     /// is Obsolete.
-    pub fn flush_done(&mut self, family: FamilyId, file: FileMeta) -> Result<Install, Refusal>
-        requires finish { CanFinish self.old.books family file }
+    pub fn flush_done(&mut self, file: FileMeta) -> Result<Install, Refusal>
+        requires finish { (family : ℕ) × CanFinish self.old.books family file }
         requires kind { file.bottom.last ≡ false }
-        ensures flushed { IfOk result (λ _. IsFlushed self.old.books self.new.books family file) }
-        ensures tells { IfOk result (Tells self.old.books self.new.books family) }
-        ensures given_up { OnErr result (IsGivenUp self.old.books self.new.books family file.number) }
-        ensures refused { Refuses (first_due (finish_refusal (slice_get self.old.books.families family) ∷ make_refusal self.old.books.supers ∷ [])) result }
+        ensures flushed { IfOk result (λ install. IsFlushed self.old.books self.new.books install.family file) }
+        ensures tells { IfOk result (λ install. Tells self.old.books self.new.books install.family install) }
+        ensures vacant { IfOk result (λ install. install.vacant ≡ None) }
+        ensures given_up { OnErr result ((family : ℕ) × IsGivenUp self.old.books self.new.books family file.number) }
+        ensures refused { (family : ℕ) → CanFinish self.old.books family file → Refuses (first_due (finish_refusal (slice_get self.old.books.families family) ∷ make_refusal self.old.books.supers ∷ [])) result }
         ensures spare { self.new.spare ≡ self.old.spare }
         ensures follows { Follows self.old.books self.new.books }
     {
         let number = file.number;
+        let family = captor(&self.objects.files, number);
         if self.families.is_dropped(family) {
             self.objects.files.settle(number, Settled::Obsolete);
             return Err(Refusal::Dropped);
@@ -64,19 +67,21 @@ impl State {
         })
     }
 
-    /// Ends the family's compaction: the file alone is a new Version. Refused as `Dropped`, `RegisterFull` and
+    /// Ends a compaction: the file alone is a new Version. Refused as `Dropped`, `RegisterFull` and
     /// `TooManyLive`; then the file is given up, so that its number is Obsolete.
-    pub fn compact_done(&mut self, family: FamilyId, file: FileMeta) -> Result<Install, Refusal>
-        requires finish { CanFinish self.old.books family file }
+    pub fn compact_done(&mut self, file: FileMeta) -> Result<Install, Refusal>
+        requires finish { (family : ℕ) × CanFinish self.old.books family file }
         requires kind { file.bottom.last ≡ true }
-        ensures compacted { IfOk result (λ _. IsCompacted self.old.books self.new.books family file) }
-        ensures tells { IfOk result (Tells self.old.books self.new.books family) }
-        ensures given_up { OnErr result (IsGivenUp self.old.books self.new.books family file.number) }
-        ensures refused { Refuses (first_due (finish_refusal (slice_get self.old.books.families family) ∷ make_refusal self.old.books.supers ∷ [])) result }
+        ensures compacted { IfOk result (λ install. IsCompacted self.old.books self.new.books install.family file) }
+        ensures tells { IfOk result (λ install. Tells self.old.books self.new.books install.family install) }
+        ensures vacant { IfOk result (λ install. install.vacant ≡ None) }
+        ensures given_up { OnErr result ((family : ℕ) × IsGivenUp self.old.books self.new.books family file.number) }
+        ensures refused { (family : ℕ) → CanFinish self.old.books family file → Refuses (first_due (finish_refusal (slice_get self.old.books.families family) ∷ make_refusal self.old.books.supers ∷ [])) result }
         ensures spare { self.new.spare ≡ self.old.spare }
         ensures follows { Follows self.old.books self.new.books }
     {
         let number = file.number;
+        let family = captor(&self.objects.files, number);
         if self.families.is_dropped(family) {
             self.objects.files.settle(number, Settled::Obsolete);
             return Err(Refusal::Dropped);
@@ -99,6 +104,30 @@ impl State {
             old,
             vacant: None,
         })
+    }
+}
+
+// The family whose flush or compaction under way has captured the number.
+fn captor(files: &FileBook, number: FileNumber) -> FamilyId
+    requires { IsCaptured files.now.captured number }
+    ensures { slice_get files.now.captured result ≡ Some (Some number) }
+{
+    files.laws();
+    for index in 0..16 {
+        if has_captured(files, FamilyId(index), number) {
+            return FamilyId(index);
+        }
+    }
+    unreachable!()
+}
+
+fn has_captured(files: &FileBook, family: FamilyId, number: FileNumber) -> bool
+    requires { family < 16 }
+    ensures { IsTrue result ↔ (slice_get files.now.captured family ≡ Some (Some number)) }
+{
+    match files.busy(family) {
+        Some(captured) => captured == number,
+        None => false,
     }
 }
 

@@ -1,6 +1,7 @@
 // The state with which a database begins.
 ghost use Rattle.std.specs.Prelude.{◌≡◌, ◌≤◌, IfOk};
 ghost use Rattle.sv_model.specs.Openings.{opening_books};
+ghost use Rattle.sv_model.specs.Steady.{Sound};
 
 use crate::installs::top_of;
 use crate::state::State;
@@ -15,7 +16,8 @@ impl State {
     /// The family `default` alone, without writes and files; `next` is the number of the first file.
     pub fn new(alloc: Global, next: FileNumber) -> Result<State, OutOfMemory>
         requires { 1 ≤ next }
-        ensures { IfOk result (λ state. state.books ≡ opening_books next) }
+        ensures books { IfOk result (λ state. state.books ≡ opening_books next) }
+        ensures sound { IfOk result (λ state. Sound state.books) }
     {
         let files = FileBook::new(alloc, next);
         files.laws();

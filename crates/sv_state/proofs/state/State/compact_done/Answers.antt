@@ -1,38 +1,43 @@
 use Rattle.std.proofs.Common.{◌+◌, length, Some, None, refl, sym, ap, ◌∙◌, subst}
 use Rattle.sv_model.specs.declared.records.Descriptor.{Descriptor}
 use Rattle.sv_model.specs.declared.records.FileMeta.{FileMeta}
-use Rattle.sv_model.specs.declared.records.SuperVersion.{SuperVersion}
 use Rattle.sv_model.specs.Books.{Books}
 use Rattle.sv_model.specs.Named.{IsLiveVersion}
+use Rattle.sv_model.specs.declared.records.FileStatus.TheVariants.{Pending}
+use Rattle.sv_model.specs.Numbers.{IsRegistered}
 use Rattle.sv_model.specs.Registers.{entry}
 use Rattle.sv_laws.specs.Captures.{IsGivenUp}
-use Rattle.sv_laws.specs.Installs.{IsOpen}
 use Rattle.sv_laws.specs.NewCurrents.{IsCompacted}
 use Rattle.sv_laws.proofs.OpenFamilies.{version-lives}
 use Rattle.sv_objects.specs.declared.bodies.Body.{Body}
 use Rattle.sv_objects.specs.declared.objects.Objects.{Objects}
 use Rattle.sv_objects.specs.Cleanups.{with_objects}
-use Rattle.sv_state.specs.Finishing.{CanFinish}
 use Rattle.sv_state.specs.Follows.{Follows}
-use Rattle.sv_state.specs.Refs.{IsBodyOf, IsState}
+use Rattle.sv_state.specs.Refs.{IsState}
 use Rattle.sv_state.specs.Seen.{StateSeen}
 use Rattle.sv_state.specs.Views.{books_of}
 use Rattle.sv_state.specs.Writing.{Tells}
 use Rattle.sv_state.proofs.Calls.{follows}
 use Rattle.sv_state.proofs.Closings.{sets-state}
-use Rattle.sv_state.proofs.Finishes.{compacted-law, compacted-ref, done-it, done-open, dropped-read, give-up, given-law, is-compacted, merge-covers, merge-from, not-named}
-use Rattle.sv_state.proofs.References.{body-of, current-ref, old-ref}
+use Rattle.sv_state.proofs.Endings.{can-of, captured-of, done-body, finish-read, refuses-as}
+use Rattle.sv_state.proofs.Finding.{open-kept}
+use Rattle.sv_state.proofs.Finishes.{compacted-law, compacted-ref, done-it, done-open, dropped-read, give-up, given-law, is-compacted, merge-covers, merge-from, not-named, was-pending}
+use Rattle.sv_state.proofs.References.{old-ref}
 use Rattle.sv_state.proofs.Stays.{keeps-state}
 use Rattle.sv_state.proofs.state.State.compact_done.Goals as goal
+
+pub captor-family-requires : goal.captor-family-requires
+captor-family-requires c =
+    captured-of (books_of c.self.inside) c.args.self.now.books (ap (λ (z : StateSeen). z.books) c.self.view_is) c.args.file c.requires.finish
 
 pub invariant_of-self : goal.invariant_of-self
 invariant_of-self c =
     let i = c.self.inside in
     let a : Books = books_of i in
     let k = c.self.invariant.sound in
-    let f = c.args.family in
+    let f = c.captor-family.result in
     let file : FileMeta = c.args.file in
-    let can : CanFinish a f file = subst (λ (z : StateSeen). CanFinish z.books f file) (sym c.self.view_is) c.requires.finish in
+    let can = can-of a c.args.self.now.books (ap (λ (z : StateSeen). z.books) c.self.view_is) k file f c.captor-family.ensures c.requires.finish in
     let b : Books = record a { files = c.settle.new.self } in
     let h : IsGivenUp a b f file.number = give-up a i.objects i.objects refl f file.number can.captured c.settle.new.self c.settle.ensures in
     keeps-state a b i.held.items c.self.invariant (given-law a b k f file.number h) refl
@@ -42,57 +47,69 @@ returns-then-is_dropped-clause-given_up c =
     let i = c.self.inside in
     let a : Books = books_of i in
     let k = c.self.invariant.sound in
-    let f = c.args.family in
+    let f = c.captor-family.result in
     let file : FileMeta = c.args.file in
-    let can : CanFinish a f file = subst (λ (z : StateSeen). CanFinish z.books f file) (sym c.self.view_is) c.requires.finish in
+    let can = can-of a c.args.self.now.books (ap (λ (z : StateSeen). z.books) c.self.view_is) k file f c.captor-family.ensures c.requires.finish in
     let b : Books = record a { files = c.settle.new.self } in
     let h : IsGivenUp a b f file.number = give-up a i.objects i.objects refl f file.number can.captured c.settle.new.self c.settle.ensures in
-    subst (λ (z : StateSeen). IsGivenUp z.books b f file.number) c.self.view_is h
+    (f, subst (λ (z : StateSeen). IsGivenUp z.books b f file.number) c.self.view_is h)
 
 pub returns-then-is_dropped-clause-follows : goal.returns-then-is_dropped-clause-follows
 returns-then-is_dropped-clause-follows c =
     let i = c.self.inside in
     let a : Books = books_of i in
     let k = c.self.invariant.sound in
-    let f = c.args.family in
+    let f = c.captor-family.result in
     let file : FileMeta = c.args.file in
-    let can : CanFinish a f file = subst (λ (z : StateSeen). CanFinish z.books f file) (sym c.self.view_is) c.requires.finish in
+    let can = can-of a c.args.self.now.books (ap (λ (z : StateSeen). z.books) c.self.view_is) k file f c.captor-family.ensures c.requires.finish in
     let b : Books = record a { files = c.settle.new.self } in
     let h : IsGivenUp a b f file.number = give-up a i.objects i.objects refl f file.number can.captured c.settle.new.self c.settle.ensures in
     subst (λ (z : StateSeen). Follows z.books b) c.self.view_is (follows a b (given-law a b k f file.number h))
+
+pub body_at-body-requires : goal.body_at-body-requires
+body_at-body-requires c =
+    let i = c.self.inside in
+    let a : Books = books_of i in
+    let k = c.self.invariant.sound in
+    let f = c.captor-family.result in
+    let file : FileMeta = c.args.file in
+    let can = can-of a c.args.self.now.books (ap (λ (z : StateSeen). z.books) c.self.view_is) k file f c.captor-family.ensures c.requires.finish in
+    let stands = dropped-read i.families f can.it c.is_dropped.result can.at c.is_dropped.ensures ∙ c.if-is_dropped.false in
+    open-kept a i.held.items c.self.invariant f (can.current stands).serial (done-it a k f file can stands) (done-open a k f file can stands)
+
+pub settle-requires-in-Err : goal.settle-requires-in-Err
+settle-requires-in-Err c =
+    let i = c.self.inside in
+    let a : Books = books_of i in
+    let k = c.self.invariant.sound in
+    let f = c.captor-family.result in
+    let file : FileMeta = c.args.file in
+    subst (λ (o : Objects). IsRegistered o.files.numbers file.number Pending) (sym c.in-Err.ensures.kept) (was-pending a k f file.number c.captor-family.ensures)
 
 pub compacted-requires-clause-live_version : goal.compacted-requires-clause-live_version
 compacted-requires-clause-live_version c =
     let i = c.self.inside in
     let a : Books = books_of i in
     let k = c.self.invariant.sound in
-    let f = c.args.family in
+    let f = c.captor-family.result in
     let file : FileMeta = c.args.file in
-    let can : CanFinish a f file = subst (λ (z : StateSeen). CanFinish z.books f file) (sym c.self.view_is) c.requires.finish in
+    let can = can-of a c.args.self.now.books (ap (λ (z : StateSeen). z.books) c.self.view_is) k file f c.captor-family.ensures c.requires.finish in
     let stands = dropped-read i.families f can.it c.is_dropped.result can.at c.is_dropped.ensures ∙ c.if-is_dropped.false in
-    let it : SuperVersion = done-it a k f file can stands in
-    let opening : IsOpen a f (can.current stands).serial it = done-open a k f file can stands in
-    let ref = current-ref a i.held.items c.self.invariant.kept f (can.current stands).serial it opening.current in
-    let at = c.body_at-body.ensures ref.0 ref.1 in
     let old : Body = c.body_at-body.result.now in
-    let w : IsBodyOf a it.descriptor old = subst (IsBodyOf a it.descriptor) (sym at) (body-of a (can.current stands).serial ref.0.pack ref.0.body.value it opening.current.has ref.2) in
-    subst (λ (z : Descriptor). IsLiveVersion i.objects.versions z.version) (sym w.descriptor_is) (version-lives a k f (can.current stands).serial it opening)
+    let w = done-body a i.held.items c.self.invariant f file can stands old c.body_at-body.ensures in
+    subst (λ (z : Descriptor). IsLiveVersion i.objects.versions z.version) (sym w.descriptor_is) (version-lives a k f (can.current stands).serial (done-it a k f file can stands) (done-open a k f file can stands))
 
 pub compacted-requires-clause-begins : goal.compacted-requires-clause-begins
 compacted-requires-clause-begins c =
     let i = c.self.inside in
     let a : Books = books_of i in
     let k = c.self.invariant.sound in
-    let f = c.args.family in
+    let f = c.captor-family.result in
     let file : FileMeta = c.args.file in
-    let can : CanFinish a f file = subst (λ (z : StateSeen). CanFinish z.books f file) (sym c.self.view_is) c.requires.finish in
+    let can = can-of a c.args.self.now.books (ap (λ (z : StateSeen). z.books) c.self.view_is) k file f c.captor-family.ensures c.requires.finish in
     let stands = dropped-read i.families f can.it c.is_dropped.result can.at c.is_dropped.ensures ∙ c.if-is_dropped.false in
-    let it : SuperVersion = done-it a k f file can stands in
-    let opening : IsOpen a f (can.current stands).serial it = done-open a k f file can stands in
-    let ref = current-ref a i.held.items c.self.invariant.kept f (can.current stands).serial it opening.current in
-    let at = c.body_at-body.ensures ref.0 ref.1 in
     let old : Body = c.body_at-body.result.now in
-    let w : IsBodyOf a it.descriptor old = subst (IsBodyOf a it.descriptor) (sym at) (body-of a (can.current stands).serial ref.0.pack ref.0.body.value it opening.current.has ref.2) in
+    let w = done-body a i.held.items c.self.invariant f file can stands old c.body_at-body.ensures in
     merge-from a k f file can stands c.requires.kind
 
 pub compacted-requires-clause-covers : goal.compacted-requires-clause-covers
@@ -100,16 +117,12 @@ compacted-requires-clause-covers c v e =
     let i = c.self.inside in
     let a : Books = books_of i in
     let k = c.self.invariant.sound in
-    let f = c.args.family in
+    let f = c.captor-family.result in
     let file : FileMeta = c.args.file in
-    let can : CanFinish a f file = subst (λ (z : StateSeen). CanFinish z.books f file) (sym c.self.view_is) c.requires.finish in
+    let can = can-of a c.args.self.now.books (ap (λ (z : StateSeen). z.books) c.self.view_is) k file f c.captor-family.ensures c.requires.finish in
     let stands = dropped-read i.families f can.it c.is_dropped.result can.at c.is_dropped.ensures ∙ c.if-is_dropped.false in
-    let it : SuperVersion = done-it a k f file can stands in
-    let opening : IsOpen a f (can.current stands).serial it = done-open a k f file can stands in
-    let ref = current-ref a i.held.items c.self.invariant.kept f (can.current stands).serial it opening.current in
-    let at = c.body_at-body.ensures ref.0 ref.1 in
     let old : Body = c.body_at-body.result.now in
-    let w : IsBodyOf a it.descriptor old = subst (IsBodyOf a it.descriptor) (sym at) (body-of a (can.current stands).serial ref.0.pack ref.0.body.value it opening.current.has ref.2) in
+    let w = done-body a i.held.items c.self.invariant f file can stands old c.body_at-body.ensures in
     merge-covers a k f file can stands c.requires.kind v (ap (λ (z : Descriptor). entry i.objects.versions z.version) (sym w.descriptor_is) ∙ e)
 
 pub compacted-requires-clause-unnamed : goal.compacted-requires-clause-unnamed
@@ -117,16 +130,12 @@ compacted-requires-clause-unnamed c =
     let i = c.self.inside in
     let a : Books = books_of i in
     let k = c.self.invariant.sound in
-    let f = c.args.family in
+    let f = c.captor-family.result in
     let file : FileMeta = c.args.file in
-    let can : CanFinish a f file = subst (λ (z : StateSeen). CanFinish z.books f file) (sym c.self.view_is) c.requires.finish in
+    let can = can-of a c.args.self.now.books (ap (λ (z : StateSeen). z.books) c.self.view_is) k file f c.captor-family.ensures c.requires.finish in
     let stands = dropped-read i.families f can.it c.is_dropped.result can.at c.is_dropped.ensures ∙ c.if-is_dropped.false in
-    let it : SuperVersion = done-it a k f file can stands in
-    let opening : IsOpen a f (can.current stands).serial it = done-open a k f file can stands in
-    let ref = current-ref a i.held.items c.self.invariant.kept f (can.current stands).serial it opening.current in
-    let at = c.body_at-body.ensures ref.0 ref.1 in
     let old : Body = c.body_at-body.result.now in
-    let w : IsBodyOf a it.descriptor old = subst (IsBodyOf a it.descriptor) (sym at) (body-of a (can.current stands).serial ref.0.pack ref.0.body.value it opening.current.has ref.2) in
+    let w = done-body a i.held.items c.self.invariant f file can stands old c.body_at-body.ensures in
     not-named a k f file can stands
 
 pub invariant_of-self-in-Err : goal.invariant_of-self-in-Err
@@ -134,9 +143,9 @@ invariant_of-self-in-Err c =
     let i = c.self.inside in
     let a : Books = books_of i in
     let k = c.self.invariant.sound in
-    let f = c.args.family in
+    let f = c.captor-family.result in
     let file : FileMeta = c.args.file in
-    let can : CanFinish a f file = subst (λ (z : StateSeen). CanFinish z.books f file) (sym c.self.view_is) c.requires.finish in
+    let can = can-of a c.args.self.now.books (ap (λ (z : StateSeen). z.books) c.self.view_is) k file f c.captor-family.ensures c.requires.finish in
     let p : Objects = c.compacted.new.objects in
     let b : Books = record (with_objects a p) { files = c.settle-in-Err.new.self } in
     let h : IsGivenUp a b f file.number = give-up a i.objects p c.in-Err.ensures.kept f file.number can.captured c.settle-in-Err.new.self c.settle-in-Err.ensures in
@@ -147,22 +156,22 @@ returns-in-Err-clause-given_up c =
     let i = c.self.inside in
     let a : Books = books_of i in
     let k = c.self.invariant.sound in
-    let f = c.args.family in
+    let f = c.captor-family.result in
     let file : FileMeta = c.args.file in
-    let can : CanFinish a f file = subst (λ (z : StateSeen). CanFinish z.books f file) (sym c.self.view_is) c.requires.finish in
+    let can = can-of a c.args.self.now.books (ap (λ (z : StateSeen). z.books) c.self.view_is) k file f c.captor-family.ensures c.requires.finish in
     let p : Objects = c.compacted.new.objects in
     let b : Books = record (with_objects a p) { files = c.settle-in-Err.new.self } in
     let h : IsGivenUp a b f file.number = give-up a i.objects p c.in-Err.ensures.kept f file.number can.captured c.settle-in-Err.new.self c.settle-in-Err.ensures in
-    subst (λ (z : StateSeen). IsGivenUp z.books b f file.number) c.self.view_is h
+    (f, subst (λ (z : StateSeen). IsGivenUp z.books b f file.number) c.self.view_is h)
 
 pub returns-in-Err-clause-follows : goal.returns-in-Err-clause-follows
 returns-in-Err-clause-follows c =
     let i = c.self.inside in
     let a : Books = books_of i in
     let k = c.self.invariant.sound in
-    let f = c.args.family in
+    let f = c.captor-family.result in
     let file : FileMeta = c.args.file in
-    let can : CanFinish a f file = subst (λ (z : StateSeen). CanFinish z.books f file) (sym c.self.view_is) c.requires.finish in
+    let can = can-of a c.args.self.now.books (ap (λ (z : StateSeen). z.books) c.self.view_is) k file f c.captor-family.ensures c.requires.finish in
     let p : Objects = c.compacted.new.objects in
     let b : Books = record (with_objects a p) { files = c.settle-in-Err.new.self } in
     let h : IsGivenUp a b f file.number = give-up a i.objects p c.in-Err.ensures.kept f file.number can.captured c.settle-in-Err.new.self c.settle-in-Err.ensures in
@@ -173,16 +182,12 @@ invariant_of-self-2 c =
     let i = c.self.inside in
     let a : Books = books_of i in
     let k = c.self.invariant.sound in
-    let f = c.args.family in
+    let f = c.captor-family.result in
     let file : FileMeta = c.args.file in
-    let can : CanFinish a f file = subst (λ (z : StateSeen). CanFinish z.books f file) (sym c.self.view_is) c.requires.finish in
+    let can = can-of a c.args.self.now.books (ap (λ (z : StateSeen). z.books) c.self.view_is) k file f c.captor-family.ensures c.requires.finish in
     let stands = dropped-read i.families f can.it c.is_dropped.result can.at c.is_dropped.ensures ∙ c.if-is_dropped.false in
-    let it : SuperVersion = done-it a k f file can stands in
-    let opening : IsOpen a f (can.current stands).serial it = done-open a k f file can stands in
-    let ref = current-ref a i.held.items c.self.invariant.kept f (can.current stands).serial it opening.current in
-    let at = c.body_at-body.ensures ref.0 ref.1 in
     let old : Body = c.body_at-body.result.now in
-    let w : IsBodyOf a it.descriptor old = subst (IsBodyOf a it.descriptor) (sym at) (body-of a (can.current stands).serial ref.0.pack ref.0.body.value it opening.current.has ref.2) in
+    let w = done-body a i.held.items c.self.invariant f file can stands old c.body_at-body.ensures in
     let p : Objects = c.compacted.new.objects in
     let made = c.in-Ok.made in
     let m = c.in-Ok.ensures.made in
@@ -198,16 +203,12 @@ returns-clause-compacted c =
     let i = c.self.inside in
     let a : Books = books_of i in
     let k = c.self.invariant.sound in
-    let f = c.args.family in
+    let f = c.captor-family.result in
     let file : FileMeta = c.args.file in
-    let can : CanFinish a f file = subst (λ (z : StateSeen). CanFinish z.books f file) (sym c.self.view_is) c.requires.finish in
+    let can = can-of a c.args.self.now.books (ap (λ (z : StateSeen). z.books) c.self.view_is) k file f c.captor-family.ensures c.requires.finish in
     let stands = dropped-read i.families f can.it c.is_dropped.result can.at c.is_dropped.ensures ∙ c.if-is_dropped.false in
-    let it : SuperVersion = done-it a k f file can stands in
-    let opening : IsOpen a f (can.current stands).serial it = done-open a k f file can stands in
-    let ref = current-ref a i.held.items c.self.invariant.kept f (can.current stands).serial it opening.current in
-    let at = c.body_at-body.ensures ref.0 ref.1 in
     let old : Body = c.body_at-body.result.now in
-    let w : IsBodyOf a it.descriptor old = subst (IsBodyOf a it.descriptor) (sym at) (body-of a (can.current stands).serial ref.0.pack ref.0.body.value it opening.current.has ref.2) in
+    let w = done-body a i.held.items c.self.invariant f file can stands old c.body_at-body.ensures in
     let p : Objects = c.compacted.new.objects in
     let made = c.in-Ok.made in
     let m = c.in-Ok.ensures.made in
@@ -222,16 +223,12 @@ returns-clause-tells c =
     let i = c.self.inside in
     let a : Books = books_of i in
     let k = c.self.invariant.sound in
-    let f = c.args.family in
+    let f = c.captor-family.result in
     let file : FileMeta = c.args.file in
-    let can : CanFinish a f file = subst (λ (z : StateSeen). CanFinish z.books f file) (sym c.self.view_is) c.requires.finish in
+    let can = can-of a c.args.self.now.books (ap (λ (z : StateSeen). z.books) c.self.view_is) k file f c.captor-family.ensures c.requires.finish in
     let stands = dropped-read i.families f can.it c.is_dropped.result can.at c.is_dropped.ensures ∙ c.if-is_dropped.false in
-    let it : SuperVersion = done-it a k f file can stands in
-    let opening : IsOpen a f (can.current stands).serial it = done-open a k f file can stands in
-    let ref = current-ref a i.held.items c.self.invariant.kept f (can.current stands).serial it opening.current in
-    let at = c.body_at-body.ensures ref.0 ref.1 in
     let old : Body = c.body_at-body.result.now in
-    let w : IsBodyOf a it.descriptor old = subst (IsBodyOf a it.descriptor) (sym at) (body-of a (can.current stands).serial ref.0.pack ref.0.body.value it opening.current.has ref.2) in
+    let w = done-body a i.held.items c.self.invariant f file can stands old c.body_at-body.ensures in
     let p : Objects = c.compacted.new.objects in
     let made = c.in-Ok.made in
     let m = c.in-Ok.ensures.made in
@@ -253,16 +250,12 @@ returns-clause-follows c =
     let i = c.self.inside in
     let a : Books = books_of i in
     let k = c.self.invariant.sound in
-    let f = c.args.family in
+    let f = c.captor-family.result in
     let file : FileMeta = c.args.file in
-    let can : CanFinish a f file = subst (λ (z : StateSeen). CanFinish z.books f file) (sym c.self.view_is) c.requires.finish in
+    let can = can-of a c.args.self.now.books (ap (λ (z : StateSeen). z.books) c.self.view_is) k file f c.captor-family.ensures c.requires.finish in
     let stands = dropped-read i.families f can.it c.is_dropped.result can.at c.is_dropped.ensures ∙ c.if-is_dropped.false in
-    let it : SuperVersion = done-it a k f file can stands in
-    let opening : IsOpen a f (can.current stands).serial it = done-open a k f file can stands in
-    let ref = current-ref a i.held.items c.self.invariant.kept f (can.current stands).serial it opening.current in
-    let at = c.body_at-body.ensures ref.0 ref.1 in
     let old : Body = c.body_at-body.result.now in
-    let w : IsBodyOf a it.descriptor old = subst (IsBodyOf a it.descriptor) (sym at) (body-of a (can.current stands).serial ref.0.pack ref.0.body.value it opening.current.has ref.2) in
+    let w = done-body a i.held.items c.self.invariant f file can stands old c.body_at-body.ensures in
     let p : Objects = c.compacted.new.objects in
     let made = c.in-Ok.made in
     let m = c.in-Ok.ensures.made in

@@ -1,19 +1,11 @@
-use Rattle.std.proofs.Common.{◌≡◌, ◌<◌, ◌∷◌, ◌++◌, inr, List, [], length, refl, sym, ap, ◌∙◌, subst, arith}
-use Rattle.std.specs.Prelude.{Ok, slice_get}
-use Rattle.sv_model.specs.declared.records.SuperVersion.{SuperVersion}
+use Rattle.std.proofs.Common.{◌≡◌, ◌<◌, ◌∷◌, ◌++◌, inr, List, [], length, refl, sym, ap, ◌∙◌, subst}
+use Rattle.std.specs.Prelude.{Ok}
 use Rattle.sv_model.specs.Books.{Books}
-use Rattle.sv_model.specs.Families.{IsOwnStanding}
-use Rattle.sv_laws.specs.Installs.{IsOpen}
-use Rattle.sv_laws.proofs.Growing.{get_within}
 use Rattle.sv_objects.specs.declared.bodies.Body.{Body}
-use Rattle.sv_state.specs.Currents.{HasCurrentAt}
 use Rattle.sv_state.specs.Planning.{MeantAt, Planned}
-use Rattle.sv_state.specs.Refs.{IsBodyOf}
 use Rattle.sv_state.specs.Seen.{StateSeen}
 use Rattle.sv_state.specs.Views.{books_of}
-use Rattle.sv_state.proofs.OptionSets.{own-it, own-open, some-and}
 use Rattle.sv_state.proofs.Plannings.{due-exactly, files-are, meant, merge-refused, only-memory}
-use Rattle.sv_state.proofs.References.{body-of, current-ref}
 use Rattle.sv_model.specs.declared.records.FileMeta.{FileMeta}
 use Rattle.sv_model.specs.declared.refusals.Refusal.TheVariants.{OutOfMemory}
 use Rattle.sv_model.specs.Books.{FileRegister}
@@ -25,6 +17,7 @@ use Rattle.sv_state.specs.Planning.{compact_due, compact_refusal}
 use Rattle.sv_state.proofs.Calls.{follows, same-books}
 use Rattle.sv_state.proofs.Captures.{is-captured, is-merge-planned, merge-law}
 use Rattle.sv_state.proofs.Stays.{keeps-state}
+use Rattle.sv_state.proofs.Finding.{meant-body, meant-it, meant-kept, meant-open, meant-so, meant-within}
 use Rattle.sv_state.proofs.state.State.compact_plan.Goals as goal
 
 pub body_at-body-requires : goal.body_at-body-requires
@@ -35,12 +28,8 @@ body_at-body-requires c =
     let f = c.in-Ok.family in
     let lane = c.args.lane in
     let name = c.args.name.now in
-    let x = some-and (slice_get i.families f) (IsOwnStanding lane name) c.in-Ok.ensures.found in
-    let cur : HasCurrentAt a f = subst (λ (z : StateSeen). HasCurrentAt z.books f) (sym c.self.view_is) (c.requires.current f x.0 (ap (λ (z : StateSeen). slice_get z.books.families f) (sym c.self.view_is) ∙ x.1) x.2.own) in
-    let it : SuperVersion = own-it a k f x.0 x.1 x.2.stands cur in
-    let opening : IsOpen a f cur.serial it = own-open a k f x.0 x.1 x.2.stands cur in
-    let ref = current-ref a i.held.items c.self.invariant.kept f cur.serial it opening.current in
-    (ref.0, ref.1)
+    let x = meant-so a c.args.self.now.books (ap (λ (z : StateSeen). z.books) c.self.view_is) lane name f c.in-Ok.ensures.found c.requires.current in
+    meant-kept a i.held.items c.self.invariant lane name f x
 
 pub due_compaction-requires : goal.due_compaction-requires
 due_compaction-requires c =
@@ -50,8 +39,8 @@ due_compaction-requires c =
     let f = c.in-Ok.family in
     let lane = c.args.lane in
     let name = c.args.name.now in
-    let x = some-and (slice_get i.families f) (IsOwnStanding lane name) c.in-Ok.ensures.found in
-    omega (arith, get_within i.families f x.0 x.1, k.lawful.limits.families)
+    let x = meant-so a c.args.self.now.books (ap (λ (z : StateSeen). z.books) c.self.view_is) lane name f c.in-Ok.ensures.found c.requires.current in
+    meant-within a i.held.items c.self.invariant lane name f x
 
 pub live_cuts-cuts-requires : goal.live_cuts-cuts-requires
 live_cuts-cuts-requires c =
@@ -61,8 +50,8 @@ live_cuts-cuts-requires c =
     let f = c.in-Ok.family in
     let lane = c.args.lane in
     let name = c.args.name.now in
-    let x = some-and (slice_get i.families f) (IsOwnStanding lane name) c.in-Ok.ensures.found in
-    omega (arith, get_within i.families f x.0 x.1, k.lawful.limits.families)
+    let x = meant-so a c.args.self.now.books (ap (λ (z : StateSeen). z.books) c.self.view_is) lane name f c.in-Ok.ensures.found c.requires.current in
+    meant-within a i.held.items c.self.invariant lane name f x
 
 pub capture-requires-clause-within : goal.capture-requires-clause-within
 capture-requires-clause-within c =
@@ -72,8 +61,8 @@ capture-requires-clause-within c =
     let f = c.in-Ok.family in
     let lane = c.args.lane in
     let name = c.args.name.now in
-    let x = some-and (slice_get i.families f) (IsOwnStanding lane name) c.in-Ok.ensures.found in
-    omega (arith, get_within i.families f x.0 x.1, k.lawful.limits.families)
+    let x = meant-so a c.args.self.now.books (ap (λ (z : StateSeen). z.books) c.self.view_is) lane name f c.in-Ok.ensures.found c.requires.current in
+    meant-within a i.held.items c.self.invariant lane name f x
 
 pub returns-in-Err-due_compaction-clause-planned : goal.returns-in-Err-due_compaction-clause-planned
 returns-in-Err-due_compaction-clause-planned c =
@@ -83,16 +72,11 @@ returns-in-Err-due_compaction-clause-planned c =
     let f = c.in-Ok.family in
     let lane = c.args.lane in
     let name = c.args.name.now in
-    let x = some-and (slice_get i.families f) (IsOwnStanding lane name) c.in-Ok.ensures.found in
-    let cur : HasCurrentAt a f = subst (λ (z : StateSeen). HasCurrentAt z.books f) (sym c.self.view_is) (c.requires.current f x.0 (ap (λ (z : StateSeen). slice_get z.books.families f) (sym c.self.view_is) ∙ x.1) x.2.own) in
-    let it : SuperVersion = own-it a k f x.0 x.1 x.2.stands cur in
-    let opening : IsOpen a f cur.serial it = own-open a k f x.0 x.1 x.2.stands cur in
-    let ref = current-ref a i.held.items c.self.invariant.kept f cur.serial it opening.current in
-    let at = c.body_at-body.ensures ref.0 ref.1 in
+    let x = meant-so a c.args.self.now.books (ap (λ (z : StateSeen). z.books) c.self.view_is) lane name f c.in-Ok.ensures.found c.requires.current in
     let old : Body = c.body_at-body.result.now in
-    let w : IsBodyOf a it.descriptor old = subst (IsBodyOf a it.descriptor) (sym at) (body-of a cur.serial ref.0.pack ref.0.body.value it opening.current.has ref.2) in
-    let m : MeantAt a lane name = meant a k lane name f x.0 x.1 x.2.own x.2.stands cur in
-    let due_is : compact_due a.files a.journal a.snapshots f c.as_slice-files.result.now ≡ compact_refusal a m = ap (compact_due a.files a.journal a.snapshots f) (c.as_slice-files.ensures ∙ files-are a k lane name f x.0 x.1 x.2.own x.2.stands cur old w) in
+    let w = meant-body a i.held.items c.self.invariant lane name f x old c.body_at-body.ensures in
+    let m : MeantAt a lane name = meant a k lane name f x.it x.at x.own x.stands x.current in
+    let due_is : compact_due a.files a.journal a.snapshots f c.as_slice-files.result.now ≡ compact_refusal a m = ap (compact_due a.files a.journal a.snapshots f) (c.as_slice-files.ensures ∙ files-are a k lane name f x.it x.at x.own x.stands x.current old w) in
     merge-refused a c.args.self.now.books (ap (λ (z : StateSeen). z.books) c.self.view_is) lane name (λ n g. Unit {0}) m c.in-Err-due_compaction.refusal (due-exactly (compact_refusal a m) c.in-Err-due_compaction.refusal (sym due_is ∙ c.in-Err-due_compaction.ensures.refused))
 
 pub returns-in_default-clause-planned : goal.returns-in_default-clause-planned
@@ -103,16 +87,11 @@ returns-in_default-clause-planned c =
     let f = c.in-Ok.family in
     let lane = c.args.lane in
     let name = c.args.name.now in
-    let x = some-and (slice_get i.families f) (IsOwnStanding lane name) c.in-Ok.ensures.found in
-    let cur : HasCurrentAt a f = subst (λ (z : StateSeen). HasCurrentAt z.books f) (sym c.self.view_is) (c.requires.current f x.0 (ap (λ (z : StateSeen). slice_get z.books.families f) (sym c.self.view_is) ∙ x.1) x.2.own) in
-    let it : SuperVersion = own-it a k f x.0 x.1 x.2.stands cur in
-    let opening : IsOpen a f cur.serial it = own-open a k f x.0 x.1 x.2.stands cur in
-    let ref = current-ref a i.held.items c.self.invariant.kept f cur.serial it opening.current in
-    let at = c.body_at-body.ensures ref.0 ref.1 in
+    let x = meant-so a c.args.self.now.books (ap (λ (z : StateSeen). z.books) c.self.view_is) lane name f c.in-Ok.ensures.found c.requires.current in
     let old : Body = c.body_at-body.result.now in
-    let w : IsBodyOf a it.descriptor old = subst (IsBodyOf a it.descriptor) (sym at) (body-of a cur.serial ref.0.pack ref.0.body.value it opening.current.has ref.2) in
-    let m : MeantAt a lane name = meant a k lane name f x.0 x.1 x.2.own x.2.stands cur in
-    let due_is : compact_due a.files a.journal a.snapshots f c.as_slice-files.result.now ≡ compact_refusal a m = ap (compact_due a.files a.journal a.snapshots f) (c.as_slice-files.ensures ∙ files-are a k lane name f x.0 x.1 x.2.own x.2.stands cur old w) in
+    let w = meant-body a i.held.items c.self.invariant lane name f x old c.body_at-body.ensures in
+    let m : MeantAt a lane name = meant a k lane name f x.it x.at x.own x.stands x.current in
+    let due_is : compact_due a.files a.journal a.snapshots f c.as_slice-files.result.now ≡ compact_refusal a m = ap (compact_due a.files a.journal a.snapshots f) (c.as_slice-files.ensures ∙ files-are a k lane name f x.it x.at x.own x.stands x.current old w) in
     merge-refused a c.args.self.now.books (ap (λ (z : StateSeen). z.books) c.self.view_is) lane name (λ n g. Unit {0}) m OutOfMemory tt
 
 pub returns-in_default-clause-follows : goal.returns-in_default-clause-follows
@@ -129,16 +108,11 @@ returns-in-Err-capture-clause-planned c =
     let f = c.in-Ok.family in
     let lane = c.args.lane in
     let name = c.args.name.now in
-    let x = some-and (slice_get i.families f) (IsOwnStanding lane name) c.in-Ok.ensures.found in
-    let cur : HasCurrentAt a f = subst (λ (z : StateSeen). HasCurrentAt z.books f) (sym c.self.view_is) (c.requires.current f x.0 (ap (λ (z : StateSeen). slice_get z.books.families f) (sym c.self.view_is) ∙ x.1) x.2.own) in
-    let it : SuperVersion = own-it a k f x.0 x.1 x.2.stands cur in
-    let opening : IsOpen a f cur.serial it = own-open a k f x.0 x.1 x.2.stands cur in
-    let ref = current-ref a i.held.items c.self.invariant.kept f cur.serial it opening.current in
-    let at = c.body_at-body.ensures ref.0 ref.1 in
+    let x = meant-so a c.args.self.now.books (ap (λ (z : StateSeen). z.books) c.self.view_is) lane name f c.in-Ok.ensures.found c.requires.current in
     let old : Body = c.body_at-body.result.now in
-    let w : IsBodyOf a it.descriptor old = subst (IsBodyOf a it.descriptor) (sym at) (body-of a cur.serial ref.0.pack ref.0.body.value it opening.current.has ref.2) in
-    let m : MeantAt a lane name = meant a k lane name f x.0 x.1 x.2.own x.2.stands cur in
-    let due_is : compact_due a.files a.journal a.snapshots f c.as_slice-files.result.now ≡ compact_refusal a m = ap (compact_due a.files a.journal a.snapshots f) (c.as_slice-files.ensures ∙ files-are a k lane name f x.0 x.1 x.2.own x.2.stands cur old w) in
+    let w = meant-body a i.held.items c.self.invariant lane name f x old c.body_at-body.ensures in
+    let m : MeantAt a lane name = meant a k lane name f x.it x.at x.own x.stands x.current in
+    let due_is : compact_due a.files a.journal a.snapshots f c.as_slice-files.result.now ≡ compact_refusal a m = ap (compact_due a.files a.journal a.snapshots f) (c.as_slice-files.ensures ∙ files-are a k lane name f x.it x.at x.own x.stands x.current old w) in
     merge-refused a c.args.self.now.books (ap (λ (z : StateSeen). z.books) c.self.view_is) lane name (λ n g. Unit {0}) m c.in-Err-capture.refusal (only-memory (capture_refusal a.files) (compact_refusal a m) c.in-Err-capture.refusal c.in-Ok-due_compaction.ensures.may c.in-Err-capture.ensures.refused)
 
 pub returns-in-Err-capture-clause-follows : goal.returns-in-Err-capture-clause-follows
@@ -155,23 +129,18 @@ invariant_of-self-2 c =
     let f = c.in-Ok.family in
     let lane = c.args.lane in
     let name = c.args.name.now in
-    let x = some-and (slice_get i.families f) (IsOwnStanding lane name) c.in-Ok.ensures.found in
-    let cur : HasCurrentAt a f = subst (λ (z : StateSeen). HasCurrentAt z.books f) (sym c.self.view_is) (c.requires.current f x.0 (ap (λ (z : StateSeen). slice_get z.books.families f) (sym c.self.view_is) ∙ x.1) x.2.own) in
-    let it : SuperVersion = own-it a k f x.0 x.1 x.2.stands cur in
-    let opening : IsOpen a f cur.serial it = own-open a k f x.0 x.1 x.2.stands cur in
-    let ref = current-ref a i.held.items c.self.invariant.kept f cur.serial it opening.current in
-    let at = c.body_at-body.ensures ref.0 ref.1 in
+    let x = meant-so a c.args.self.now.books (ap (λ (z : StateSeen). z.books) c.self.view_is) lane name f c.in-Ok.ensures.found c.requires.current in
     let old : Body = c.body_at-body.result.now in
-    let w : IsBodyOf a it.descriptor old = subst (IsBodyOf a it.descriptor) (sym at) (body-of a cur.serial ref.0.pack ref.0.body.value it opening.current.has ref.2) in
-    let m : MeantAt a lane name = meant a k lane name f x.0 x.1 x.2.own x.2.stands cur in
-    let due_is : compact_due a.files a.journal a.snapshots f c.as_slice-files.result.now ≡ compact_refusal a m = ap (compact_due a.files a.journal a.snapshots f) (c.as_slice-files.ensures ∙ files-are a k lane name f x.0 x.1 x.2.own x.2.stands cur old w) in
+    let w = meant-body a i.held.items c.self.invariant lane name f x old c.body_at-body.ensures in
+    let m : MeantAt a lane name = meant a k lane name f x.it x.at x.own x.stands x.current in
+    let due_is : compact_due a.files a.journal a.snapshots f c.as_slice-files.result.now ≡ compact_refusal a m = ap (compact_due a.files a.journal a.snapshots f) (c.as_slice-files.ensures ∙ files-are a k lane name f x.it x.at x.own x.stands x.current old w) in
     let file : FileMeta = c.file_over.result in
     let e = c.file_over.ensures in
     let F : FileRegister = c.capture.new.self in
     let L : List FileMeta = c.push_reserved.new.self.items in
     let caught = c.in-Ok-capture.ensures.captured in
     let new : Books = record a { files = F; metas = L } in
-    let h : IsMergePlanned a new f file = is-merge-planned a f cur.serial it opening old w file F L (ap (λ (z : FileMeta). z.from) e) (ap (λ (z : FileMeta). z.to) e ∙ c.reach-to.ensures ∙ ap reach_of c.as_slice-files.ensures) (ap (λ (z : FileMeta). z.bottom.last) e)
+    let h : IsMergePlanned a new f file = is-merge-planned a f x.current.serial (meant-it a i.held.items c.self.invariant lane name f x) (meant-open a i.held.items c.self.invariant lane name f x) old w file F L (ap (λ (z : FileMeta). z.from) e) (ap (λ (z : FileMeta). z.to) e ∙ c.reach-to.ensures ∙ ap reach_of c.as_slice-files.ensures) (ap (λ (z : FileMeta). z.bottom.last) e)
     (subst (λ l. 0 < length l) c.as_slice-files.ensures c.in-Ok-due_compaction.ensures.some)
     (is-captured a k f file F L c.in-Ok-due_compaction.ensures.idle c.in-Ok-capture.ensures.refused (ap (λ (z : FileMeta). z.number) e ∙ caught.0)
     (c.live_cuts-cuts.ensures file (ap (λ (z : FileMeta). z.from) e) (ap (λ (z : FileMeta). z.to) e) (ap (λ (z : FileMeta). z.bottom.cuts) e)) caught.1
@@ -186,23 +155,18 @@ returns-clause-planned c =
     let f = c.in-Ok.family in
     let lane = c.args.lane in
     let name = c.args.name.now in
-    let x = some-and (slice_get i.families f) (IsOwnStanding lane name) c.in-Ok.ensures.found in
-    let cur : HasCurrentAt a f = subst (λ (z : StateSeen). HasCurrentAt z.books f) (sym c.self.view_is) (c.requires.current f x.0 (ap (λ (z : StateSeen). slice_get z.books.families f) (sym c.self.view_is) ∙ x.1) x.2.own) in
-    let it : SuperVersion = own-it a k f x.0 x.1 x.2.stands cur in
-    let opening : IsOpen a f cur.serial it = own-open a k f x.0 x.1 x.2.stands cur in
-    let ref = current-ref a i.held.items c.self.invariant.kept f cur.serial it opening.current in
-    let at = c.body_at-body.ensures ref.0 ref.1 in
+    let x = meant-so a c.args.self.now.books (ap (λ (z : StateSeen). z.books) c.self.view_is) lane name f c.in-Ok.ensures.found c.requires.current in
     let old : Body = c.body_at-body.result.now in
-    let w : IsBodyOf a it.descriptor old = subst (IsBodyOf a it.descriptor) (sym at) (body-of a cur.serial ref.0.pack ref.0.body.value it opening.current.has ref.2) in
-    let m : MeantAt a lane name = meant a k lane name f x.0 x.1 x.2.own x.2.stands cur in
-    let due_is : compact_due a.files a.journal a.snapshots f c.as_slice-files.result.now ≡ compact_refusal a m = ap (compact_due a.files a.journal a.snapshots f) (c.as_slice-files.ensures ∙ files-are a k lane name f x.0 x.1 x.2.own x.2.stands cur old w) in
+    let w = meant-body a i.held.items c.self.invariant lane name f x old c.body_at-body.ensures in
+    let m : MeantAt a lane name = meant a k lane name f x.it x.at x.own x.stands x.current in
+    let due_is : compact_due a.files a.journal a.snapshots f c.as_slice-files.result.now ≡ compact_refusal a m = ap (compact_due a.files a.journal a.snapshots f) (c.as_slice-files.ensures ∙ files-are a k lane name f x.it x.at x.own x.stands x.current old w) in
     let file : FileMeta = c.file_over.result in
     let e = c.file_over.ensures in
     let F : FileRegister = c.capture.new.self in
     let L : List FileMeta = c.push_reserved.new.self.items in
     let caught = c.in-Ok-capture.ensures.captured in
     let new : Books = record a { files = F; metas = L } in
-    let h : IsMergePlanned a new f file = is-merge-planned a f cur.serial it opening old w file F L (ap (λ (z : FileMeta). z.from) e) (ap (λ (z : FileMeta). z.to) e ∙ c.reach-to.ensures ∙ ap reach_of c.as_slice-files.ensures) (ap (λ (z : FileMeta). z.bottom.last) e)
+    let h : IsMergePlanned a new f file = is-merge-planned a f x.current.serial (meant-it a i.held.items c.self.invariant lane name f x) (meant-open a i.held.items c.self.invariant lane name f x) old w file F L (ap (λ (z : FileMeta). z.from) e) (ap (λ (z : FileMeta). z.to) e ∙ c.reach-to.ensures ∙ ap reach_of c.as_slice-files.ensures) (ap (λ (z : FileMeta). z.bottom.last) e)
     (subst (λ l. 0 < length l) c.as_slice-files.ensures c.in-Ok-due_compaction.ensures.some)
     (is-captured a k f file F L c.in-Ok-due_compaction.ensures.idle c.in-Ok-capture.ensures.refused (ap (λ (z : FileMeta). z.number) e ∙ caught.0)
     (c.live_cuts-cuts.ensures file (ap (λ (z : FileMeta). z.from) e) (ap (λ (z : FileMeta). z.to) e) (ap (λ (z : FileMeta). z.bottom.cuts) e)) caught.1
@@ -218,23 +182,18 @@ returns-clause-follows c =
     let f = c.in-Ok.family in
     let lane = c.args.lane in
     let name = c.args.name.now in
-    let x = some-and (slice_get i.families f) (IsOwnStanding lane name) c.in-Ok.ensures.found in
-    let cur : HasCurrentAt a f = subst (λ (z : StateSeen). HasCurrentAt z.books f) (sym c.self.view_is) (c.requires.current f x.0 (ap (λ (z : StateSeen). slice_get z.books.families f) (sym c.self.view_is) ∙ x.1) x.2.own) in
-    let it : SuperVersion = own-it a k f x.0 x.1 x.2.stands cur in
-    let opening : IsOpen a f cur.serial it = own-open a k f x.0 x.1 x.2.stands cur in
-    let ref = current-ref a i.held.items c.self.invariant.kept f cur.serial it opening.current in
-    let at = c.body_at-body.ensures ref.0 ref.1 in
+    let x = meant-so a c.args.self.now.books (ap (λ (z : StateSeen). z.books) c.self.view_is) lane name f c.in-Ok.ensures.found c.requires.current in
     let old : Body = c.body_at-body.result.now in
-    let w : IsBodyOf a it.descriptor old = subst (IsBodyOf a it.descriptor) (sym at) (body-of a cur.serial ref.0.pack ref.0.body.value it opening.current.has ref.2) in
-    let m : MeantAt a lane name = meant a k lane name f x.0 x.1 x.2.own x.2.stands cur in
-    let due_is : compact_due a.files a.journal a.snapshots f c.as_slice-files.result.now ≡ compact_refusal a m = ap (compact_due a.files a.journal a.snapshots f) (c.as_slice-files.ensures ∙ files-are a k lane name f x.0 x.1 x.2.own x.2.stands cur old w) in
+    let w = meant-body a i.held.items c.self.invariant lane name f x old c.body_at-body.ensures in
+    let m : MeantAt a lane name = meant a k lane name f x.it x.at x.own x.stands x.current in
+    let due_is : compact_due a.files a.journal a.snapshots f c.as_slice-files.result.now ≡ compact_refusal a m = ap (compact_due a.files a.journal a.snapshots f) (c.as_slice-files.ensures ∙ files-are a k lane name f x.it x.at x.own x.stands x.current old w) in
     let file : FileMeta = c.file_over.result in
     let e = c.file_over.ensures in
     let F : FileRegister = c.capture.new.self in
     let L : List FileMeta = c.push_reserved.new.self.items in
     let caught = c.in-Ok-capture.ensures.captured in
     let new : Books = record a { files = F; metas = L } in
-    let h : IsMergePlanned a new f file = is-merge-planned a f cur.serial it opening old w file F L (ap (λ (z : FileMeta). z.from) e) (ap (λ (z : FileMeta). z.to) e ∙ c.reach-to.ensures ∙ ap reach_of c.as_slice-files.ensures) (ap (λ (z : FileMeta). z.bottom.last) e)
+    let h : IsMergePlanned a new f file = is-merge-planned a f x.current.serial (meant-it a i.held.items c.self.invariant lane name f x) (meant-open a i.held.items c.self.invariant lane name f x) old w file F L (ap (λ (z : FileMeta). z.from) e) (ap (λ (z : FileMeta). z.to) e ∙ c.reach-to.ensures ∙ ap reach_of c.as_slice-files.ensures) (ap (λ (z : FileMeta). z.bottom.last) e)
     (subst (λ l. 0 < length l) c.as_slice-files.ensures c.in-Ok-due_compaction.ensures.some)
     (is-captured a k f file F L c.in-Ok-due_compaction.ensures.idle c.in-Ok-capture.ensures.refused (ap (λ (z : FileMeta). z.number) e ∙ caught.0)
     (c.live_cuts-cuts.ensures file (ap (λ (z : FileMeta). z.from) e) (ap (λ (z : FileMeta). z.to) e) (ap (λ (z : FileMeta). z.bottom.cuts) e)) caught.1

@@ -2,11 +2,12 @@ use Rattle.std.proofs.Common.{None, sym, subst}
 use Rattle.sv_model.specs.Books.{Books}
 use Rattle.sv_state.specs.Currents.{CanEnd}
 use Rattle.sv_state.specs.Follows.{Follows}
+use Rattle.sv_state.specs.Gone.{TellsEnd}
 use Rattle.sv_state.specs.Refs.{IsState}
 use Rattle.sv_state.specs.Seen.{StateSeen}
 use Rattle.sv_state.specs.Views.{books_of}
 use Rattle.sv_state.proofs.Calls.{follows}
-use Rattle.sv_state.proofs.Closings.{end-changes, end-law, sets-state}
+use Rattle.sv_state.proofs.Closings.{end-changes, end-law, ended-tells, sets-state}
 use Rattle.sv_state.proofs.state.State.end_current.Goals as goal
 
 pub invariant_of-self : goal.invariant_of-self
@@ -31,3 +32,9 @@ returns-clause-follows c =
     let q = c.take_current-old.ensures.tops can.current.top can.current.at in
     let b : Books = record a { tops = T } in
     subst (λ (z : StateSeen). Follows z.books b) c.self.view_is (follows a b (end-law a b k c.args.family (end-changes a k c.args.family can T q)))
+
+pub returns-clause-tells : goal.returns-clause-tells
+returns-clause-tells c =
+    let i = c.self.inside in
+    let a : Books = books_of i in
+    subst (λ (z : StateSeen). TellsEnd z.books c.ended.result) c.self.view_is (ended-tells a i.held.items c.self.invariant.kept c.args.family c.take_current-old.result c.take_current-old.ensures.old c.ended.result c.ended.ensures.family c.ended.ensures.old c.ended.ensures.vacant)

@@ -1,19 +1,12 @@
-use Rattle.std.proofs.Common.{◌≡◌, ◌-◌, inr, length, refl, sym, ap, ◌∙◌, subst, arith}
-use Rattle.std.specs.Prelude.{Ok, Err, nat_lt, slice_get}
-use Rattle.sv_model.specs.declared.records.SuperVersion.{SuperVersion}
+use Rattle.std.proofs.Common.{◌≡◌, ◌-◌, inr, length, refl, sym, ap, ◌∙◌, subst}
+use Rattle.std.specs.Prelude.{Ok, Err, nat_lt}
 use Rattle.sv_model.specs.Books.{Books}
-use Rattle.sv_model.specs.Families.{IsOwnStanding}
-use Rattle.sv_laws.specs.Installs.{IsOpen}
-use Rattle.sv_laws.proofs.Growing.{get_within}
 use Rattle.sv_objects.specs.declared.bodies.Body.{Body}
-use Rattle.sv_state.specs.Currents.{HasCurrentAt}
 use Rattle.sv_state.specs.Planning.{IsCellIf, IsFlushPlan, MeantAt, Planned, active_rows, flush_due, flush_refusal}
-use Rattle.sv_state.specs.Refs.{IsBodyOf}
 use Rattle.sv_state.specs.Seen.{StateSeen}
 use Rattle.sv_state.specs.Views.{books_of}
-use Rattle.sv_state.proofs.OptionSets.{own-it, own-open, some-and}
 use Rattle.sv_state.proofs.Plannings.{base-below, cell-if, due-exactly, meant, members-are, rows-are}
-use Rattle.sv_state.proofs.References.{body-of, current-ref}
+use Rattle.sv_state.proofs.Finding.{meant-body, meant-kept, meant-so, meant-within}
 use Rattle.sv_state.proofs.state.State.flush_plan.Goals as goal
 
 pub body_at-body-requires : goal.body_at-body-requires
@@ -24,12 +17,8 @@ body_at-body-requires c =
     let f = c.in-Ok.family in
     let lane = c.args.lane in
     let name = c.args.name.now in
-    let x = some-and (slice_get i.families f) (IsOwnStanding lane name) c.in-Ok.ensures.found in
-    let cur : HasCurrentAt a f = subst (λ (z : StateSeen). HasCurrentAt z.books f) (sym c.self.view_is) (c.requires.current f x.0 (ap (λ (z : StateSeen). slice_get z.books.families f) (sym c.self.view_is) ∙ x.1) x.2.own) in
-    let it : SuperVersion = own-it a k f x.0 x.1 x.2.stands cur in
-    let opening : IsOpen a f cur.serial it = own-open a k f x.0 x.1 x.2.stands cur in
-    let ref = current-ref a i.held.items c.self.invariant.kept f cur.serial it opening.current in
-    (ref.0, ref.1)
+    let x = meant-so a c.args.self.now.books (ap (λ (z : StateSeen). z.books) c.self.view_is) lane name f c.in-Ok.ensures.found c.requires.current in
+    meant-kept a i.held.items c.self.invariant lane name f x
 
 pub written-requires : goal.written-requires
 written-requires c =
@@ -39,8 +28,8 @@ written-requires c =
     let f = c.in-Ok.family in
     let lane = c.args.lane in
     let name = c.args.name.now in
-    let x = some-and (slice_get i.families f) (IsOwnStanding lane name) c.in-Ok.ensures.found in
-    omega (arith, get_within i.families f x.0 x.1, k.lawful.limits.families)
+    let x = meant-so a c.args.self.now.books (ap (λ (z : StateSeen). z.books) c.self.view_is) lane name f c.in-Ok.ensures.found c.requires.current in
+    meant-within a i.held.items c.self.invariant lane name f x
 
 pub overflow_sub-rows : goal.overflow_sub-rows
 overflow_sub-rows c =
@@ -50,15 +39,10 @@ overflow_sub-rows c =
     let f = c.in-Ok.family in
     let lane = c.args.lane in
     let name = c.args.name.now in
-    let x = some-and (slice_get i.families f) (IsOwnStanding lane name) c.in-Ok.ensures.found in
-    let cur : HasCurrentAt a f = subst (λ (z : StateSeen). HasCurrentAt z.books f) (sym c.self.view_is) (c.requires.current f x.0 (ap (λ (z : StateSeen). slice_get z.books.families f) (sym c.self.view_is) ∙ x.1) x.2.own) in
-    let it : SuperVersion = own-it a k f x.0 x.1 x.2.stands cur in
-    let opening : IsOpen a f cur.serial it = own-open a k f x.0 x.1 x.2.stands cur in
-    let ref = current-ref a i.held.items c.self.invariant.kept f cur.serial it opening.current in
-    let at = c.body_at-body.ensures ref.0 ref.1 in
+    let x = meant-so a c.args.self.now.books (ap (λ (z : StateSeen). z.books) c.self.view_is) lane name f c.in-Ok.ensures.found c.requires.current in
     let old : Body = c.body_at-body.result.now in
-    let w : IsBodyOf a it.descriptor old = subst (IsBodyOf a it.descriptor) (sym at) (body-of a cur.serial ref.0.pack ref.0.body.value it opening.current.has ref.2) in
-    base-below a k lane name f x.0 x.1 x.2.own x.2.stands cur old w c.written.result c.written.ensures
+    let w = meant-body a i.held.items c.self.invariant lane name f x old c.body_at-body.ensures in
+    base-below a k lane name f x.it x.at x.own x.stands x.current old w c.written.result c.written.ensures
 
 pub due_flush-requires : goal.due_flush-requires
 due_flush-requires c =
@@ -68,8 +52,8 @@ due_flush-requires c =
     let f = c.in-Ok.family in
     let lane = c.args.lane in
     let name = c.args.name.now in
-    let x = some-and (slice_get i.families f) (IsOwnStanding lane name) c.in-Ok.ensures.found in
-    omega (arith, get_within i.families f x.0 x.1, k.lawful.limits.families)
+    let x = meant-so a c.args.self.now.books (ap (λ (z : StateSeen). z.books) c.self.view_is) lane name f c.in-Ok.ensures.found c.requires.current in
+    meant-within a i.held.items c.self.invariant lane name f x
 
 pub returns-in-Err-due_flush : goal.returns-in-Err-due_flush
 returns-in-Err-due_flush c =
@@ -79,17 +63,12 @@ returns-in-Err-due_flush c =
     let f = c.in-Ok.family in
     let lane = c.args.lane in
     let name = c.args.name.now in
-    let x = some-and (slice_get i.families f) (IsOwnStanding lane name) c.in-Ok.ensures.found in
-    let cur : HasCurrentAt a f = subst (λ (z : StateSeen). HasCurrentAt z.books f) (sym c.self.view_is) (c.requires.current f x.0 (ap (λ (z : StateSeen). slice_get z.books.families f) (sym c.self.view_is) ∙ x.1) x.2.own) in
-    let it : SuperVersion = own-it a k f x.0 x.1 x.2.stands cur in
-    let opening : IsOpen a f cur.serial it = own-open a k f x.0 x.1 x.2.stands cur in
-    let ref = current-ref a i.held.items c.self.invariant.kept f cur.serial it opening.current in
-    let at = c.body_at-body.ensures ref.0 ref.1 in
+    let x = meant-so a c.args.self.now.books (ap (λ (z : StateSeen). z.books) c.self.view_is) lane name f c.in-Ok.ensures.found c.requires.current in
     let old : Body = c.body_at-body.result.now in
-    let w : IsBodyOf a it.descriptor old = subst (IsBodyOf a it.descriptor) (sym at) (body-of a cur.serial ref.0.pack ref.0.body.value it opening.current.has ref.2) in
-    let m : MeantAt a lane name = meant a k lane name f x.0 x.1 x.2.own x.2.stands cur in
-    let rows = rows-are a k lane name f x.0 x.1 x.2.own x.2.stands cur old w c.written.result c.written.ensures in
-    let members : length c.as_slice-members.result.now ≡ length m.list.members = ap (λ l. length l) c.as_slice-members.ensures ∙ members-are a k lane name f x.0 x.1 x.2.own x.2.stands cur old w in
+    let w = meant-body a i.held.items c.self.invariant lane name f x old c.body_at-body.ensures in
+    let m : MeantAt a lane name = meant a k lane name f x.it x.at x.own x.stands x.current in
+    let rows = rows-are a k lane name f x.it x.at x.own x.stands x.current old w c.written.result c.written.ensures in
+    let members : length c.as_slice-members.result.now ≡ length m.list.members = ap (λ l. length l) c.as_slice-members.ensures ∙ members-are a k lane name f x.it x.at x.own x.stands x.current old w in
     let due_is : flush_due a.files f a.supers a.memtables (c.written.result - old.descriptor.base) (length c.as_slice-members.result.now) ≡ flush_refusal a m = λ j. flush_due a.files f a.supers a.memtables (rows j) (members j) in
     subst (λ (z : StateSeen). Planned z.books lane name (flush_refusal z.books) (IsFlushPlan z.books) (Err c.in-Err-due_flush.refusal)) c.self.view_is (inr (m, due-exactly (flush_refusal a m) c.in-Err-due_flush.refusal (sym due_is ∙ c.in-Err-due_flush.ensures.refused), tt))
 
@@ -101,18 +80,13 @@ returns c =
     let f = c.in-Ok.family in
     let lane = c.args.lane in
     let name = c.args.name.now in
-    let x = some-and (slice_get i.families f) (IsOwnStanding lane name) c.in-Ok.ensures.found in
-    let cur : HasCurrentAt a f = subst (λ (z : StateSeen). HasCurrentAt z.books f) (sym c.self.view_is) (c.requires.current f x.0 (ap (λ (z : StateSeen). slice_get z.books.families f) (sym c.self.view_is) ∙ x.1) x.2.own) in
-    let it : SuperVersion = own-it a k f x.0 x.1 x.2.stands cur in
-    let opening : IsOpen a f cur.serial it = own-open a k f x.0 x.1 x.2.stands cur in
-    let ref = current-ref a i.held.items c.self.invariant.kept f cur.serial it opening.current in
-    let at = c.body_at-body.ensures ref.0 ref.1 in
+    let x = meant-so a c.args.self.now.books (ap (λ (z : StateSeen). z.books) c.self.view_is) lane name f c.in-Ok.ensures.found c.requires.current in
     let old : Body = c.body_at-body.result.now in
-    let w : IsBodyOf a it.descriptor old = subst (IsBodyOf a it.descriptor) (sym at) (body-of a cur.serial ref.0.pack ref.0.body.value it opening.current.has ref.2) in
-    let m : MeantAt a lane name = meant a k lane name f x.0 x.1 x.2.own x.2.stands cur in
-    let rows = rows-are a k lane name f x.0 x.1 x.2.own x.2.stands cur old w c.written.result c.written.ensures in
-    let members : length c.as_slice-members.result.now ≡ length m.list.members = ap (λ l. length l) c.as_slice-members.ensures ∙ members-are a k lane name f x.0 x.1 x.2.own x.2.stands cur old w in
+    let w = meant-body a i.held.items c.self.invariant lane name f x old c.body_at-body.ensures in
+    let m : MeantAt a lane name = meant a k lane name f x.it x.at x.own x.stands x.current in
+    let rows = rows-are a k lane name f x.it x.at x.own x.stands x.current old w c.written.result c.written.ensures in
+    let members : length c.as_slice-members.result.now ≡ length m.list.members = ap (λ l. length l) c.as_slice-members.ensures ∙ members-are a k lane name f x.it x.at x.own x.stands x.current old w in
     let due_is : flush_due a.files f a.supers a.memtables (c.written.result - old.descriptor.base) (length c.as_slice-members.result.now) ≡ flush_refusal a m = λ j. flush_due a.files f a.supers a.memtables (rows j) (members j) in
     let s = c.in-Ok-due_flush.switches in
     let is : s ≡ nat_lt 0 (active_rows a m) = c.in-Ok-due_flush.ensures.switches ∙ ap (nat_lt 0) rows in
-    subst (λ (z : StateSeen). Planned z.books lane name (flush_refusal z.books) (IsFlushPlan z.books) (Ok (record { family = f; cell = c.cell_if-cell.result }))) c.self.view_is (inr (m, sym due_is ∙ c.in-Ok-due_flush.ensures.refused, record { family_is = refl; cell = subst (IsCellIf a.memtables m.it.descriptor.active (nat_lt 0 (active_rows a m))) (sym c.cell_if-cell.ensures) (cell-if a k lane name f x.0 x.1 x.2.own x.2.stands cur old w s is) }))
+    subst (λ (z : StateSeen). Planned z.books lane name (flush_refusal z.books) (IsFlushPlan z.books) (Ok (record { family = f; cell = c.cell_if-cell.result }))) c.self.view_is (inr (m, sym due_is ∙ c.in-Ok-due_flush.ensures.refused, record { family_is = refl; cell = subst (IsCellIf a.memtables m.it.descriptor.active (nat_lt 0 (active_rows a m))) (sym c.cell_if-cell.ensures) (cell-if a k lane name f x.it x.at x.own x.stands x.current old w s is) }))

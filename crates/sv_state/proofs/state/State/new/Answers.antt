@@ -2,6 +2,8 @@ use Rattle.std.proofs.Common.{◌≡◌, ◌≤◌, ◌∷◌, ◌++◌, [], Lis
 use Rattle.sv_model.specs.declared.sv_refs.SvRef.{SvRef}
 use Rattle.sv_model.specs.Books.{Books, FileRegister}
 use Rattle.sv_model.specs.Openings.{opening_books}
+use Rattle.sv_model.specs.Steady.{Sound}
+use Rattle.sv_laws.proofs.Opened.{first-sound}
 use Rattle.sv_objects.specs.declared.bodies.Body.{Body}
 use Rattle.sv_state.specs.Refs.{IsState}
 use Rattle.sv_state.proofs.Firsts.{first-books, first-state, pack_is}
@@ -29,5 +31,8 @@ invariant_of-result c =
     subst (λ (z : Books × List (Option (SvRef Body))). IsState z.0 z.1) (λ i. (sym (books c) i, sym held i))
     (first-state c.new-objects.result c.make_family.new.self c.args.next r.pack r.body.value c.in-Ok.ensures.made o.supers o.memtables o.lists o.versions files c.requires most r refl refl)
 
-pub returns : goal.returns
-returns c = books c
+pub returns-clause-books : goal.returns-clause-books
+returns-clause-books c = books c
+
+pub returns-clause-sound : goal.returns-clause-sound
+returns-clause-sound c = subst Sound (sym (books c)) (first-sound c.args.next c.requires (subst (λ (z : FileRegister). z.next ≤ 18446744073709551615) c.new-files.ensures c.laws.ensures.numbers.most))

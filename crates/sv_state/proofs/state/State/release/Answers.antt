@@ -4,12 +4,12 @@ use Rattle.sv_model.specs.declared.records.Family.{Family}
 use Rattle.sv_model.specs.Books.{Books}
 use Rattle.sv_state.specs.Currents.{HasCurrentAt}
 use Rattle.sv_state.specs.Follows.{Follows}
-use Rattle.sv_state.specs.Gone.{IsReleasedAs}
+use Rattle.sv_state.specs.Gone.{IsReleasedAs, TellsEnd}
 use Rattle.sv_state.specs.Refs.{IsState}
 use Rattle.sv_state.specs.Seen.{StateSeen}
 use Rattle.sv_state.specs.Views.{books_of}
 use Rattle.sv_state.proofs.Calls.{follows, same-books}
-use Rattle.sv_state.proofs.Closings.{is-released, is-retired, made-before, made-top, release-law, retire-law, sets-state}
+use Rattle.sv_state.proofs.Closings.{ended-tells, is-released, is-retired, made-before, made-top, release-law, retire-law, sets-state}
 use Rattle.sv_state.proofs.Stays.{keeps-state}
 use Rattle.sv_state.proofs.state.State.release.Goals as goal
 
@@ -94,3 +94,9 @@ returns-clause-follows c =
     let b : Books = record a { families = c.release.new.self; tops = T } in
     let r = is-retired a k c.args.lane c.args.name.now f c.release.new.self h (c.may_retire.ensures ∙ ap Some c.if-not-may_retire.false) cur T q in
     subst (λ (z : StateSeen). Follows z.books b) c.self.view_is (follows a b (retire-law a b k f c.args.lane r))
+
+pub returns-clause-tells : goal.returns-clause-tells
+returns-clause-tells c =
+    let i = c.self.inside in
+    let a : Books = books_of i in
+    subst (λ (z : StateSeen). TellsEnd z.books c.ended.result) c.self.view_is (ended-tells a i.held.items c.self.invariant.kept c.in-Ok.family c.take_current-old.result c.take_current-old.ensures.old c.ended.result c.ended.ensures.family c.ended.ensures.old c.ended.ensures.vacant)
