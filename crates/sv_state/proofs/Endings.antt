@@ -14,7 +14,7 @@ use Rattle.sv_model.specs.Registers.{entry}
 use Rattle.sv_model.specs.Steady.{Sound}
 use Rattle.sv_model.proofs.NumberLaws.{one_entry}
 use Rattle.sv_registry.specs.Calls.{make_refusal}
-use Rattle.sv_laws.proofs.Items.{some}
+use Rattle.sv_model.proofs.Entries.{some}
 use Rattle.sv_objects.specs.declared.bodies.Body.{Body}
 use Rattle.sv_state.specs.Finishing.{CanFinish, finish_refusal}
 use Rattle.sv_state.specs.Refs.{IsBodyOf, IsState}

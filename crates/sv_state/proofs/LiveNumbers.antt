@@ -13,8 +13,9 @@ use Rattle.sv_model.specs.Books.{Books, files_of}
 use Rattle.sv_model.specs.Lists.{In}
 use Rattle.sv_model.specs.Named.{numbers_of}
 use Rattle.sv_model.specs.Steady.{Sound}
-use Rattle.sv_laws.proofs.Growing.{get_within, get-some}
-use Rattle.sv_laws.proofs.Items.{get_none, in-cons, in-suc, some}
+use Rattle.sv_laws.proofs.Growing.{get_within}
+use Rattle.sv_model.proofs.Registers.{get-some}
+use Rattle.sv_model.proofs.Entries.{get_none, in-cons, in-suc, some}
 use Rattle.sv_state.specs.Currents.{IsShownFile, StandsAt}
 
 -- ---- a number more

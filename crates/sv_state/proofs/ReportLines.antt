@@ -11,7 +11,7 @@ use Rattle.sv_model.specs.declared.records.FileMeta.{FileMeta}
 use Rattle.sv_model.specs.Books.{Books, files_of}
 use Rattle.sv_model.specs.Named.{numbers_of}
 use Rattle.sv_model.specs.Summaries.{family_line, family_lines}
-use Rattle.sv_laws.proofs.Items.{get_none, some}
+use Rattle.sv_model.proofs.Entries.{get_none, some}
 use Rattle.sv_state.specs.Currents.{StandsAt}
 
 module _ (J : List Write) (V : List Version) where

@@ -18,7 +18,7 @@ use Rattle.sv_laws.specs.Installs.{IsOpen, live_super, next_top}
 use Rattle.sv_laws.specs.NewCurrents.{IsSwitched}
 use Rattle.sv_laws.specs.Writes.{IsWritten}
 use Rattle.sv_laws.proofs.Growing.{placed-set}
-use Rattle.sv_laws.proofs.Items.{some}
+use Rattle.sv_model.proofs.Entries.{some}
 use Rattle.sv_laws.proofs.OpenFamilies.{active-lives, fresh-mem}
 use Rattle.sv_objects.specs.declared.bodies.Body.{Body}
 use Rattle.sv_objects.specs.Makings.{IsCellOf}

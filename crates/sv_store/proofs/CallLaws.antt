@@ -16,7 +16,7 @@ use Rattle.sv_laws.specs.Installs.{live_super, next_top}
 use Rattle.sv_laws.specs.NewCurrents.{IsFamilyMade}
 use Rattle.sv_laws.proofs.BorneRows.{mem-within, unborne}
 use Rattle.sv_laws.proofs.Growing.{get_within, placed-push, placed-set}
-use Rattle.sv_laws.proofs.Items.{some}
+use Rattle.sv_model.proofs.Entries.{some}
 use Rattle.sv_objects.specs.declared.bodies.Body.{Body}
 use Rattle.sv_state.specs.declared.installs.Install.{Install}
 use Rattle.sv_state.specs.Changing.{IsSet}

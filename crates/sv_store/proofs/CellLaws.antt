@@ -15,13 +15,13 @@ use Rattle.sv_model.specs.Lawful.{Lawful}
 use Rattle.sv_model.specs.Lists.{In}
 use Rattle.sv_model.specs.Named.{IsLive, memtable_live}
 use Rattle.sv_model.specs.Registers.{entry}
-use Rattle.sv_model.proofs.Registers.{entry-new, entry-old, entry_le, entry_push}
+use Rattle.sv_model.proofs.Registers.{entry-new, entry-old, entry_le, entry_push, get-some}
 use Rattle.sv_laws.specs.Cleaning.{AreCellsGone, IsCleaned, Went}
 use Rattle.sv_laws.specs.Installs.{HasCell}
 use Rattle.sv_laws.proofs.BorneRows.{borne-other, borne-same}
-use Rattle.sv_laws.proofs.Growing.{get-some, placed-set, placed_get}
+use Rattle.sv_laws.proofs.Growing.{placed-set, placed_get}
 use Rattle.sv_laws.specs.Growing.{IsPlaced}
-use Rattle.sv_laws.proofs.Items.{get_push, in-left, in-none, in-right, some}
+use Rattle.sv_model.proofs.Entries.{get_push, in-left, in-none, in-right, some}
 use Rattle.sv_store.specs.Cells.{CellsHold, HoldsAt, IsInCell, IsVacant, Vacated, with_row}
 
 cell-is : (w : Cell) (m : ℕ) (R : List Row) → w.id ≡ m → w.rows ≡ R → w ≡ record { id = m; rows = R }

@@ -6,7 +6,7 @@ use Rattle.sv_model.specs.Books.{Books}
 use Rattle.sv_model.specs.Cells.{Cell}
 use Rattle.sv_model.specs.Named.{HasCurrent}
 use Rattle.sv_model.specs.Openings.{opening_books}
-use Rattle.sv_laws.proofs.Items.{entry_none, entry_one, get_one, some}
+use Rattle.sv_model.proofs.Entries.{entry_none, entry_one, get_one, some}
 use Rattle.sv_laws.proofs.Opened.{first-sound}
 use Rattle.sv_store.specs.Cells.{CellsHold, HoldsAt}
 use Rattle.sv_store.specs.Opening.{opening_cells}

@@ -18,7 +18,7 @@ use Rattle.sv_model.proofs.AfterLaws.{after-through}
 use Rattle.sv_laws.specs.Cleaning.{AreCellsGone, IsCleaned, without}
 use Rattle.sv_laws.specs.Growing.{IsPlaced}
 use Rattle.sv_laws.specs.Installs.{IsOpen}
-use Rattle.sv_laws.proofs.Items.{some}
+use Rattle.sv_model.proofs.Entries.{some}
 use Rattle.sv_laws.proofs.OpenFamilies.{current-top}
 use Rattle.sv_objects.specs.declared.bodies.Body.{Body}
 use Rattle.sv_state.specs.Currents.{HasCurrentAt}

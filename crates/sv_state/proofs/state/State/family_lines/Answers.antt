@@ -2,7 +2,7 @@ use Rattle.std.proofs.Common.{◌≡◌, ◌<◌, length, Some, sym, ap, ◌∙�
 use Rattle.std.specs.Prelude.{slice_get}
 use Rattle.sv_model.specs.Books.{Books}
 use Rattle.sv_model.specs.Summaries.{family_lines}
-use Rattle.sv_laws.proofs.Growing.{get-some}
+use Rattle.sv_model.proofs.Registers.{get-some}
 use Rattle.sv_state.specs.Seen.{StateSeen}
 use Rattle.sv_state.specs.Views.{books_of}
 use Rattle.sv_state.proofs.ReportLines.{lines-more}
