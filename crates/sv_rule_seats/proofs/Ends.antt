@@ -90,8 +90,8 @@ module _ {S D C B : Type 0} (books : S → Books) (disk : D → Disk) (cell : C 
       let is : spot lane f ≡ i = omega arith in
       let r = kept.sweep.right lane f (omega arith) (omega arith) in
       by_less (slot s i) 256 (λ small. small)
-          (λ big. absurd (omega
-          (arith, r.cached (omega (arith, ap (slot s) is)), none_cached lane f, ap (slot s) is)))
+      (λ big. absurd (omega
+      (arith, r.cached (omega (arith, ap (slot s) is)), none_cached lane f, ap (slot s) is)))
 
   held_by_numbers : (p : ℕ) → 256 ≤ p → holders s p ≡ below (λ f. same p (number s f)) 16
   held_by_numbers p big = omega (

@@ -88,7 +88,7 @@ module _ (b : Books) (name : List ℕ) (plan : Plan) (p : Clear b name plan) whe
   may-switch due =
       let o = (none_due _ _ parts.1).0 in
       let q : switch_due b.supers b.memtables (length p.meant.list.members) p.meant.is_open.family.options.max_immutable ≡ None =
-          subst (λ d. only_if d (switch_due b.supers b.memtables (length p.meant.list.members) p.meant.is_open.family.options.max_immutable) ≡ None) due o in
+      subst (λ d. only_if d (switch_due b.supers b.memtables (length p.meant.list.members) p.meant.is_open.family.options.max_immutable) ≡ None) due o in
       (none_due (stall_refusal (length p.meant.list.members) p.meant.is_open.family.options.max_immutable) (memtables_refusal b.memtables ∷ make_refusal b.supers ∷ []) q).1
 
 -- ---- a row without a switch
