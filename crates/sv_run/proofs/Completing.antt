@@ -1,5 +1,5 @@
 -- Where nothing is wrong with the words and the script and nothing fails, the lines are answered.
-use Rattle.std.proofs.Common.{◌≡◌, ◌≤◌, ◌+◌, inl, inr, ℕ, List, [], ◌∷◌, length, Option, Some, None, Result, Ok, Err, refl, sym, ◌∙◌, subst, arith}
+use Rattle.std.proofs.Common.{◌≡◌, ◌≤◌, ◌+◌, inl, inr, ℕ, List, [], ◌∷◌, length, Option, Some, None, Result, Ok, Err, refl, sym, ap, ◌∙◌, subst, arith}
 use Rattle.std.specs.Prelude.{IsSome, IsSomeAnd, IfSome, codes}
 use Rattle.sv_model.specs.declared.End.{End}
 use Rattle.sv_model.specs.declared.End.TheVariants as end
@@ -60,10 +60,14 @@ completes i d o None status.DirFault e are script holds reads asks writes = absu
 completes i d o (Some done) status.DirFault e are script holds reads asks writes = absurd (asks (closed_refusal i d done e.0.1))
 completes i d o stands status.WriteFault e are script holds reads asks writes = absurd (writes e.rose)
 
+none_path : (o : Option (List ℕ)) → o ≡ None → IsSome o → ⊥
+none_path None e h = absurd h
+none_path (Some path) e h = absurd (cc)
+
 -- who asks for help asks for no run
 help_runs : (words : List (List ℕ)) → IsHelp words → AreRun words → ⊥
 help_runs words help (inl run) = absurd (let q : codes "--help" ∷ [] ≡ codes "run" ∷ [] = sym help ∙ run in cc)
-help_runs words help (inr path) = subst (λ w. IsSome (dir_word w)) help path
+help_runs words help (inr path) = none_path (dir_word words) (ap dir_word help) path
 
 pub helps : (i : Input) (d : Directory) (o : Output) (stands : Option Done) (answer : Status) → Ends i d o stands answer → Helps i o answer
 helps i d o stands status.Ok e help writes = inl refl
