@@ -12,9 +12,9 @@ use crate::store::Store;
 use sv_model::{Name, OptionName, Refusal, SvSerial};
 
 impl Store {
-    /// Sets an option of the family of the lane's handle of the name, and gives its new current, also where the value is
-    /// the same; the one before is Gone. Refused as `BadOption` where the value is outside the option's range, then as
-    /// `NotOpen` or `NoFamily` without a handle, then as `Dropped`, `RegisterFull` and `TooManyLive`.
+    /// Sets an option of the family of the lane's handle of the name, and gives its new current, also where the value
+    /// is the same; the one before is Gone. Refused as `BadOption` where the value is outside the option's range, then
+    /// as `NotOpen` or `NoFamily` without a handle, then as `Dropped`, `RegisterFull` and `TooManyLive`.
     pub fn set(
         &mut self,
         name: &Name,
