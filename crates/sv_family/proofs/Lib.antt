@@ -1,3 +1,4 @@
 mod Changing
 mod Lawful
 mod Seeking
+mod OpenedFamilies

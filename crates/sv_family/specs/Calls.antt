@@ -1,5 +1,5 @@
 -- What the calls leave.
-use Rattle.std.specs.Prelude.{◌≡◌, ℕ, Bool, true, false, List, [], ◌∷◌, ◌++◌, length, Some, slice_get, slice_set, replicate}
+use Rattle.std.specs.Prelude.{◌≡◌, ◌<◌, ℕ, Bool, true, false, List, [], ◌∷◌, ◌++◌, length, Some, slice_get, slice_set, replicate}
 use Rattle.sv_model.specs.declared.records.Family.{Family}
 use Rattle.sv_model.specs.declared.settings.OptionName.{OptionName}
 use Rattle.sv_model.specs.declared.settings.Options.{Options}
@@ -27,6 +27,13 @@ pub record IsChanged (Is : Family → Type 0) (change : Family → Family) (old 
   pub at : slice_get old id ≡ Some it
   pub was : Is it
   pub changed : new ≡ slice_set old id (change it)
+
+-- the family is not `default`, and the lane has no handle of it
+pub record IsFreshTo (lane : ℕ) (families : List Family) (id : ℕ) : Type 0 where
+  pub other : 0 < id
+  pub it : Family
+  pub at : slice_get families id ≡ Some it
+  pub none : slice_get it.handles lane ≡ Some false
 
 -- the lane has a handle of the family, or has none
 abbrev pub with_handle : ℕ → Bool → Family → Family

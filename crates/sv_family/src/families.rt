@@ -4,7 +4,7 @@ ghost use Rattle.std.specs.Option.{option_map};
 ghost use Rattle.sv_model.specs.declared.records.Family.{Family};
 ghost use Rattle.sv_model.specs.Families.{AreFamilies, IsOwn, IsOwnStanding, IsStanding, default_family, greatest_of, is_retired};
 ghost use Rattle.sv_model.specs.Refusals.{Refuses, RefusesExactly};
-ghost use Rattle.sv_family.specs.Calls.{IsChanged, IsCreated, as_dropped, as_set, with_handle};
+ghost use Rattle.sv_family.specs.Calls.{IsChanged, IsCreated, IsFreshTo, as_dropped, as_set, with_handle};
 ghost use Rattle.sv_family.specs.Refused.{change_refusal, create_refusal, drop_refusal, find_refusal, has_handle, open_refusal, release_refusal, set_refusal, stands};
 
 use crate::making::{default_family, new_family};
@@ -170,6 +170,7 @@ impl Families {
     pub fn open_family(&mut self, lane: u8, name: &Name) -> Result<FamilyId, Refusal>
         requires { lane < MAX_LANES }
         ensures changed { IfOk result (λ id. IsChanged (IsStanding name.now) (with_handle lane true) self.old id self.new) }
+        ensures fresh { IfOk result (λ id. IsFreshTo lane self.old id) }
         ensures refused { RefusesExactly (open_refusal self.old lane name.now) result }
         ensures kept { OnErr result (self.new ≡ self.old) }
         ensures lawful { AreFamilies self.new }

@@ -1,13 +1,16 @@
--- A file is good or bad, and not both.
+-- A file is good or bad, and not both; and a read of a bad one is refused.
 use Rattle.std.proofs.Common.{◌≡◌, ◌==◌, ◌⊎◌, inl, inr, ℕ, Bool, true, false, List, [], ◌∷◌, Option, Some, None, bytes_eq, refl, sym, ap, subst, ◌∙◌}
 use Rattle.std.proofs.lemmas.Bool.Decides.{Decides-eqb}
 use Rattle.std.proofs.lemmas.Slice.Eq.{bytes_eq-Decides}
 use Rattle.sv_model.specs.declared.writes.Kept.{Kept}
 use Rattle.sv_model.specs.declared.cuts.Bottom.{Bottom}
 use Rattle.sv_model.specs.declared.records.FileMeta.{FileMeta}
+use Rattle.sv_model.specs.declared.refusals.Refusal.{Refusal}
+use Rattle.sv_model.specs.declared.refusals.Refusal.TheVariants as refusal
+use Rattle.sv_model.specs.Files.{Files, file_of}
 use Rattle.sv_model.specs.TableText.{IsTextOf, IsTableFile, flag}
 use Rattle.sv_table.proofs.FileText.{texts_are}
-use Rattle.sv_file_checks.specs.Checks.{first_failing, other_field, AreBad, IsBadAt, IsGoodFile, IsTextFor}
+use Rattle.sv_file_checks.specs.Checks.{first_failing, other_field, AreBad, IsBadAt, IsGoodFile, IsTextFor, Holds, FileIsBad, BytesRefusal, ReadRefusal}
 
 -- ---- the range
 
@@ -84,3 +87,14 @@ not_bad file bytes place good (inr other) =
 pub good_not_bad : (file : FileMeta) (content : Option (List ℕ)) (place : ℕ) → IsGoodFile file content → IsBadAt file content place → ⊥
 good_not_bad file None place good bad = good
 good_not_bad file (Some bytes) place good bad = not_bad file bytes place good bad
+
+pub file_not_bad : (all : Files) (file : FileMeta) (place : ℕ) → IsGoodFile file (file_of file.number all) → FileIsBad (Some all) file place → ⊥
+file_not_bad all file place good bad =
+    good_not_bad file (file_of file.number all) place good (subst (λ (c : Option (List ℕ)). IsBadAt file c place) (sym bad.holds) bad.bad)
+
+-- ---- refusals
+
+-- a file that holds bad bytes is bad
+pub bytes_refused : (told : Option Files) (file : FileMeta) (bytes : List ℕ) (e : Refusal) → Holds told file (Some bytes) → BytesRefusal file bytes e → ReadRefusal told file e
+bytes_refused told file bytes (refusal.BadFile n place) held r = (r.0, record { content = Some bytes; holds = held; bad = r.1 })
+bytes_refused told file bytes e held r = absurd r

@@ -63,6 +63,18 @@ abbrev pub IsBadAt : FileMeta → Option (List ℕ) → ℕ → Type 0
 IsBadAt file None place = place ≡ 0
 IsBadAt file (Some bytes) place = AreBad file bytes place
 
+-- The file holds this; said only where the directory tells its files.
+abbrev pub Holds : Option Files → FileMeta → Option (List ℕ) → Type 0
+Holds told file content = IfSome told (λ files. file_of file.number files ≡ content)
+
+-- The file is bad at this offset.
+pub record FileIsBad (told : Option Files) (file : FileMeta) (place : ℕ) : Type 0 where
+  pub content : Option (List ℕ)
+  pub holds : Holds told file content
+  pub bad : IsBadAt file content place
+
+-- ---- refusals
+
 -- A read of a number was refused: the directory failed at it, there is no such file, or out of memory.
 abbrev pub AbsentRefusal : Option Files → ℕ → Refusal → Type 0
 AbsentRefusal told number (refusal.DirFault n) = n ≡ number
@@ -70,10 +82,9 @@ AbsentRefusal told number (refusal.BadFile n place) = (n ≡ number) × (place �
 AbsentRefusal told number refusal.OutOfMemory = Unit {0}
 AbsentRefusal told number e = ⊥
 
--- A read of a file was refused: the directory failed at it, it is bad, or out of memory. Where it is bad is promised
--- where the directory tells its files.
+-- A read of a file was refused: the directory failed at it, it is bad, or out of memory.
 abbrev pub ReadRefusal : Option Files → FileMeta → Refusal → Type 0
 ReadRefusal told file (refusal.DirFault n) = n ≡ file.number
-ReadRefusal told file (refusal.BadFile n place) = (n ≡ file.number) × IfSome told (λ files. IsBadAt file (file_of file.number files) place)
+ReadRefusal told file (refusal.BadFile n place) = (n ≡ file.number) × FileIsBad told file place
 ReadRefusal told file refusal.OutOfMemory = Unit {0}
 ReadRefusal told file e = ⊥

@@ -1,7 +1,7 @@
 // Reading the bytes of a file.
 ghost use Rattle.std.specs.Prelude.{◌≡◌, Some, IfOk, IfErr, IfSome};
 ghost use Rattle.sv_model.specs.Files.{file_of};
-ghost use Rattle.sv_file_checks.specs.Checks.{AbsentRefusal, IsTextFor, ReadRefusal};
+ghost use Rattle.sv_file_checks.specs.Checks.{AbsentRefusal, Holds, IsTextFor, ReadRefusal};
 ghost use Rattle.sv_file_checks.specs.Faults.{CountsFault};
 
 use crate::checks::check_bytes;
@@ -31,7 +31,7 @@ pub fn read_bytes<D: Dir>(dir: &mut D, number: FileNumber) -> Result<Vec<u8>, Re
 /// and as `BadFile` exactly where the file is bad: at 0 where there is none, at its first bad field where it is no
 /// table, and at the first field that is not the file's where it is another table.
 pub fn read_checked<D: Dir>(dir: &mut D, file: &FileMeta) -> Result<Vec<u8>, Refusal>
-    ensures found { IfOk result (λ bytes. IfSome (D.files dir.old) (λ files. file_of file.now.number files ≡ Some bytes.items)) }
+    ensures found { IfOk result (λ bytes. Holds (D.files dir.old) file.now (Some bytes.items)) }
     ensures text { IfOk result (λ bytes. IsTextFor file.now bytes.items) }
     ensures refused { IfErr result (ReadRefusal (D.files dir.old) file.now) }
     ensures same { D.files dir.new ≡ D.files dir.old }

@@ -1,17 +1,17 @@
 -- Of files that were read in order, each is good; and the first that could not be read is refused.
 use Rattle.std.proofs.Common.{◌+◌, ◌≡◌, ◌<◌, ℕ, zero, suc, List, [], ◌∷◌, ◌++◌, take, drop, get_or, length, Option, Some, None, slice_get, sym, ap, subst, ◌∙◌, drop-cons}
-use Rattle.std.specs.Prelude.{IfSome}
+use Rattle.std.specs.Prelude.{IfErr, Result, Ok, Err}
 use Rattle.std.proofs.lemmas.List.{take-append-drop, take_more}
 use Rattle.sv_model.specs.declared.cuts.Bottom.{Bottom}
 use Rattle.sv_model.specs.declared.records.FileMeta.{FileMeta}
 use Rattle.sv_model.specs.declared.refusals.Refusal.{Refusal}
 use Rattle.sv_model.specs.declared.refusals.Refusal.TheVariants as refusal
 use Rattle.sv_model.specs.declared.tables.Table.{Table}
-use Rattle.sv_model.specs.Files.{Files, file_of}
+use Rattle.sv_model.specs.Files.{Files}
 use Rattle.sv_model.specs.Lists.{Every}
 use Rattle.sv_model.specs.TableText.{IsTextOf}
 use Rattle.sv_model.proofs.Entries.{every_none}
-use Rattle.sv_file_checks.specs.Checks.{IsBadAt, IsGoodFile, IsTextFor, ReadRefusal}
+use Rattle.sv_file_checks.specs.Checks.{Holds, IsGoodFile, IsTextFor, ReadRefusal}
 use Rattle.sv_outputs.specs.Reading.{AreRead, IsGoodIn, IsReached, IsRead, IsTableOver, ReadsRefused, TableRefusal}
 
 -- ---- one file
@@ -29,15 +29,16 @@ good_read None file table h = tt
 good_read (Some files) file table h = subst (λ (c : Option (List ℕ)). IsGoodFile file c) (sym h.held) (text_over file h.bytes table h.over)
 
 -- what a refusal of bytes says of a file that holds them
-pub bytes_refused : (told : Option Files) (file : FileMeta) (bytes : List ℕ) (e : Refusal) → IfSome told (λ files. file_of file.number files ≡ Some bytes)
+pub bytes_refused : (told : Option Files) (file : FileMeta) (bytes : List ℕ) (e : Refusal) → Holds told file (Some bytes)
     → TableRefusal file bytes e → ReadRefusal told file e
-bytes_refused told file bytes (refusal.BadFile number place) held r = (r.0, bad_held told held)
-  where
-    bad_held : (all : Option Files) → IfSome all (λ files. file_of file.number files ≡ Some bytes) → IfSome all (λ files. IsBadAt file (file_of file.number files) place)
-    bad_held None held = tt
-    bad_held (Some files) held = subst (λ (c : Option (List ℕ)). IsBadAt file c place) (sym held) r.1
+bytes_refused told file bytes (refusal.BadFile number place) held r = (r.0, record { content = Some bytes; holds = held; bad = r.1 })
 bytes_refused told file bytes refusal.OutOfMemory held r = tt
 bytes_refused told file bytes e held r = absurd r
+
+pub refused_of : (told : Option Files) (file : FileMeta) (bytes : List ℕ) (r : Result Table Refusal) → Holds told file (Some bytes)
+    → IfErr r (TableRefusal file bytes) → IfErr r (ReadRefusal told file)
+refused_of told file bytes (Ok table) held h = tt
+refused_of told file bytes (Err e) held h = bytes_refused told file bytes e held h
 
 -- ---- several
 

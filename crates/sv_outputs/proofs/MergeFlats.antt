@@ -1,6 +1,6 @@
 -- Where the files hold the texts of their ranges' flats, the merge is the flat of the whole range.
 use Rattle.std.proofs.Common.{◌≡◌, inl, inr, ◌≤◌, ℕ, suc, List, [], ◌∷◌, ◌++◌, length, Option, Some, None, Result, Ok, Err, refl, subst, arith}
-use Rattle.std.specs.Prelude.{IfErr, IfSome, IsSomeAnd, OnOk}
+use Rattle.std.specs.Prelude.{IfErr, IsSomeAnd, OnOk}
 use Rattle.sv_model.specs.declared.writes.Write.{Write}
 use Rattle.sv_model.specs.declared.records.FileMeta.{FileMeta}
 use Rattle.sv_model.specs.declared.refusals.Refusal.{Refusal}
@@ -15,8 +15,8 @@ use Rattle.sv_model.specs.Ranges.{FilesJoin}
 use Rattle.sv_table.proofs.FileText.{texts_are}
 use Rattle.sv_dir.specs.Files.{PutsFile}
 use Rattle.sv_merge.specs.Merging.{AreFlats, IsFlatTable}
-use Rattle.sv_file_checks.specs.Checks.{IsBadAt, IsGoodFile}
-use Rattle.sv_file_checks.proofs.CheckLaws.{good_not_bad}
+use Rattle.sv_file_checks.specs.Checks.{FileIsBad, IsGoodFile}
+use Rattle.sv_file_checks.proofs.CheckLaws.{file_not_bad}
 use Rattle.sv_outputs.specs.Compacting.{MergeRefused, PutsFlat}
 use Rattle.sv_outputs.specs.Merging.{IsMergeDue, IsMergeText}
 use Rattle.sv_outputs.specs.Reading.{AreRead, IsRead, ReadsRefused}
@@ -92,8 +92,7 @@ reads_not_bad all journal family told files number place is holds r =
     let file = r.file in
     let here = in_middle (HoldsText all journal family) r.reached.older file r.reached.newer (subst (λ (l : List FileMeta). Every (HoldsText all journal family) l) r.reached.stands holds) in
     let good = held_good journal family file (file_of file.number all) here in
-    let bad = subst (λ (t : Option Files). IfSome t (λ fs. IsBadAt file (file_of file.number fs) place)) is r.refused.1 in
-    good_not_bad file (file_of file.number all) place good bad
+    file_not_bad all file place good (subst (λ (t : Option Files). FileIsBad t file place) is r.refused.1)
 
 pub not_bad : (all : Files) (journal : List Write) (family : ℕ) (files : List FileMeta) (file : FileMeta) (before after : Option Files) (e : Refusal) → before ≡ Some all
     → Every (HoldsText all journal family) files → MergeRefused files file before after e → PutsFlat journal family file before after (Err e)

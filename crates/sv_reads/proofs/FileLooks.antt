@@ -18,11 +18,11 @@ use Rattle.sv_model.specs.TableText.{IsTextOf}
 use Rattle.sv_model.proofs.FlatRanges.{range_fit}
 use Rattle.sv_model.proofs.FlatReads.{flat_op, flat_value}
 use Rattle.sv_table.proofs.FileText.{texts_are}
-use Rattle.sv_table.specs.Decoding.{IsBadFile, IsHeadOf}
 use Rattle.sv_table.specs.Lookups.{op_upto}
-use Rattle.sv_table.specs.declared.heads.Head.{Head}
+use Rattle.sv_file_checks.specs.Checks.{FileIsBad, IsGoodFile}
+use Rattle.sv_file_checks.proofs.CheckLaws.{file_not_bad}
 use Rattle.sv_reads.specs.Parts.{chosen}
-use Rattle.sv_reads.specs.OneFile.{OtherAt, IsBadAt, BytesTell, ContentTells, FileTells, FileIsBad}
+use Rattle.sv_reads.specs.OneFile.{BytesTell, ContentTells, FileTells}
 use Rattle.sv_reads.specs.Files.{IsReached, FilesAnswer, Serve, Looks}
 use Rattle.sv_reads.proofs.PartLooks.{look_part}
 
@@ -38,16 +38,11 @@ text_of : (journal : List Write) (family : ℕ) (file : FileMeta) (bytes : List 
     (h : IsFileText journal family file bytes) → IsTextOf bytes file.from file.to file.bottom h.rows
 text_of journal family file bytes h = record { has = h.table; are = inl h.is }
 
--- it is not bad
-not_bad : (journal : List Write) (family : ℕ) (file : FileMeta) (bytes : List ℕ) (place : ℕ)
-    → IsFileText journal family file bytes → IsBadAt file (Some bytes) place → ⊥
-not_bad journal family file bytes place h bad = ⊎_elim
-    (λ (b : IsBadFile bytes place). b.none (record { from = file.from; to = file.to; bottom = file.bottom; rows = h.rows; text = text_of journal family file bytes h }))
-    (λ (b : (head : Head) × IsHeadOf bytes head × OtherAt file head place).
-    let s = texts_are bytes b.0.from b.0.to file.from file.to b.0.bottom file.bottom b.1.rows h.rows b.1.text
-    (text_of journal family file bytes h) in
-    b.2.other (record { from = s.from_is; to = s.to_is; bottom = s.bottom_is }))
-    bad
+-- it is good
+held_good : (journal : List Write) (family : ℕ) (file : FileMeta) (o : Option (List ℕ))
+    → IsSomeAnd o (IsFileText journal family file) → IsGoodFile file o
+held_good journal family file None h = absurd h
+held_good journal family file (Some bytes) h = record { rows = h.rows; text = text_of journal family file bytes h }
 
 -- ---- what one file tells
 
@@ -196,9 +191,7 @@ module _ (all : Files) (journal : List Write) (family : ℕ) (key : List ℕ) (c
       bad_look : (place : ℕ) → FileIsBad (Some all) file place → ⊥
       bad_look place bad =
           let held = every_here (HoldsText all journal family) reached.older file reached.newer stand.held in
-          let t = held_text journal family file (file_of file.number all) held in
-          not_bad journal family file t.0 place t.2
-          (subst (λ (o : Option (List ℕ)). IsBadAt file o place) (sym bad.holds ∙ t.1) bad.bad)
+          file_not_bad all file place (held_good journal family file (file_of file.number all) held) bad
 
   none_look : (files : List FileMeta) (reach : ℕ) → Serve all journal family files reach cut
       → Every (FileTells (Some all) key cut None) files → look journal family (min cut reach) key ≡ None

@@ -11,7 +11,8 @@ use Rattle.sv_model.specs.Journal.{look, value_of}
 use Rattle.sv_model.specs.Lists.{Every}
 use Rattle.sv_model.specs.Ranges.{FilesJoin}
 use Rattle.sv_model.specs.Snapshots.{IsClear}
-use Rattle.sv_reads.specs.OneFile.{FileTells, FileIsBad}
+use Rattle.sv_file_checks.specs.Checks.{FileIsBad}
+use Rattle.sv_reads.specs.OneFile.{FileTells}
 
 -- ---- by what the files hold
 

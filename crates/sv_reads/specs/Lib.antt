@@ -1,5 +1,4 @@
 pub mod Parts
 pub mod OneFile
-pub mod Faults
 pub mod Files
 pub mod Bodies

@@ -1,13 +1,14 @@
 // Looking in files.
 ghost use Rattle.std.specs.Prelude.{◌≡◌};
-ghost use Rattle.sv_reads.specs.Faults.{Counts};
+ghost use Rattle.sv_file_checks.specs.Faults.{CountsFault};
 ghost use Rattle.sv_reads.specs.Files.{FilesAnswer, LooksServed};
 ghost use Rattle.sv_reads.specs.OneFile.{FileAnswers};
 
-use crate::bytes::find_in_bytes;
+use crate::bytes::op_in;
 use std::alloc::Global;
-use sv_dir::{Dir, DirError, Found};
-use sv_model::{FileMeta, Key, Op, Refusal};
+use sv_dir::Dir;
+use sv_file_checks::read_checked;
+use sv_model::{FileMeta, Key, Op, OutOfMemory, Refusal};
 use sv_objects::Body;
 
 // What the file says of the key, at the cut.
@@ -20,14 +21,15 @@ fn find_in_file<D: Dir>(
 ) -> Result<Option<Op>, Refusal>
     ensures answer { FileAnswers (D.files dir.old) file.now key.now cut result }
     ensures same { D.files dir.new ≡ D.files dir.old }
-    ensures faults { Counts (D.faults dir.old) (D.faults dir.new) result }
+    ensures faults { CountsFault result (D.faults dir.old) (D.faults dir.new) }
 {
-    let number = file.number.0;
-    match dir.read(file.number) {
-        Ok(Found::Bytes(bytes)) => find_in_bytes(alloc, file, bytes.as_slice(), key, cut),
-        Ok(Found::Absent) => Err(Refusal::BadFile { number, place: 0 }),
-        Err(DirError::Failed) => Err(Refusal::DirFault { number }),
-        Err(DirError::OutOfMemory) => Err(Refusal::OutOfMemory),
+    let bytes = match read_checked(dir, file) {
+        Ok(bytes) => bytes,
+        Err(refusal) => return Err(refusal),
+    };
+    match op_in(alloc, bytes.as_slice(), key, cut) {
+        Ok(found) => Ok(found),
+        Err(OutOfMemory) => Err(Refusal::OutOfMemory),
     }
 }
 
@@ -41,7 +43,7 @@ fn find_back<D: Dir>(
 ) -> Result<Option<Op>, Refusal>
     ensures answer { FilesAnswer (D.files dir.old) files.now key.now cut result }
     ensures same { D.files dir.new ≡ D.files dir.old }
-    ensures faults { Counts (D.faults dir.old) (D.faults dir.new) result }
+    ensures faults { CountsFault result (D.faults dir.old) (D.faults dir.new) }
 {
     let mut left = files;
     while let [older @ .., file] = left {
@@ -67,7 +69,7 @@ pub fn find_in_files<D: Dir>(
     ensures answer { FilesAnswer (D.files dir.old) body.now.files key.now cut result }
     ensures looks { LooksServed (D.files dir.old) body.now.files key.now cut result }
     ensures same { D.files dir.new ≡ D.files dir.old }
-    ensures faults { Counts (D.faults dir.old) (D.faults dir.new) result }
+    ensures faults { CountsFault result (D.faults dir.old) (D.faults dir.new) }
 {
     find_back(alloc, dir, body.files.as_slice(), key, cut)
 }

@@ -138,7 +138,7 @@ module _ (lane : ℕ) (a b : Books) (k : Known) (own : OwnAre lane a k) (name : 
         under-name lane k.handles name (Some id) other (here_only other (subst (IsOwn lane other) same at.2)) ∙ ap Some (sym here)
     | inr away ↦
         let old = (own.handles other f).1 (at.0, sym (placed.others f away) ∙ at.1, at.2) in
-        under-other lane k.handles name (Some id) other (λ e. none_some f (ap k.handles (sym e) ∙ old)) ∙ old
+        under-other lane k.handles name (Some id) other (λ e. none_some f (sym free ∙ (ap k.handles (sym e) ∙ old))) ∙ old
   ]
 
   pub own-handle : OwnAre lane b (has_handle name id k)

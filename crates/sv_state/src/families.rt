@@ -1,8 +1,9 @@
 // Handles of families, and their drop.
 ghost use Rattle.std.specs.Prelude.{◌≡◌, ◌<◌, IfOk, OnErr, IsSomeAnd, slice_get};
-ghost use Rattle.sv_model.specs.Families.{IsOwn};
+ghost use Rattle.sv_model.specs.Families.{IsOwn, IsStanding};
 ghost use Rattle.sv_model.specs.Refusals.{RefusesExactly};
 ghost use Rattle.sv_laws.specs.Families.{IsDropped, IsOpened};
+ghost use Rattle.sv_family.specs.Calls.{IsFreshTo};
 ghost use Rattle.sv_family.specs.Refused.{drop_refusal, find_refusal, open_refusal};
 ghost use Rattle.sv_state.specs.Follows.{Follows};
 
@@ -25,6 +26,8 @@ impl State {
     pub fn open_family(&mut self, lane: u8, name: &Name) -> Result<FamilyId, Refusal>
         requires { lane < 32 }
         ensures opened { IfOk result (λ id. IsOpened self.old.books self.new.books id lane) }
+        ensures standing { IfOk result (λ id. IsSomeAnd (slice_get self.old.books.families id) (IsStanding name.now)) }
+        ensures fresh { IfOk result (IsFreshTo lane self.old.books.families) }
         ensures refused { RefusesExactly (open_refusal self.old.books.families lane name.now) result }
         ensures kept { OnErr result (self.new ≡ self.old) }
         ensures spare { self.new.spare ≡ self.old.spare }

@@ -2,6 +2,7 @@ use Rattle.std.proofs.Common.{true, ◌∙◌, sym}
 use Rattle.sv_model.specs.Families.{IsStanding}
 use Rattle.sv_family.specs.Calls.{with_handle}
 use Rattle.sv_family.proofs.Changing.{WasRead, changed_is, lawful_open}
+use Rattle.sv_family.proofs.OpenedFamilies.{fresh_to}
 use Rattle.sv_family.proofs.families.Families.open_family.Goals as goal
 
 was_read : (c : goal.After-self-1) →
@@ -23,3 +24,9 @@ returns-clause-changed c =
 
 pub returns-clause-lawful : goal.returns-clause-lawful
 returns-clause-lawful c = invariant_of-self c
+
+pub returns-clause-fresh : goal.returns-clause-fresh
+returns-clause-fresh c =
+    fresh_to c.self.inside.families.items c.args.self.now c.self.view_is c.args.lane c.args.name.now c.self.invariant
+    c.requires (sym c.own.ensures.exact ∙ sym c.is_some.ensures ∙ c.if-is_some.false) c.in-Some.id
+    c.in-Some.ensures.standing
