@@ -9,6 +9,7 @@ mod filling;
 mod holds;
 mod installs;
 mod openings;
+mod options;
 mod snapshots;
 mod store;
 mod switches;
