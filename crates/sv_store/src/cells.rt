@@ -2,16 +2,13 @@
 ghost use Rattle.std.specs.Prelude.{◌≡◌, ◌<◌, ◌++◌, ◌∷◌, [], IfOk, OnOk, OnErr, None, Some, replicate, slice_get, slice_set, length};
 ghost use Rattle.sv_model.specs.Cells.{Cell};
 ghost use Rattle.sv_model.specs.Lists.{Every};
-ghost use Rattle.sv_memtable.specs.declared.cells.TheConstants.{MAX_ROWS};
+ghost use Rattle.sv_model.specs.declared.limits.TheConstants.{MAX_ROWS};
 ghost use Rattle.sv_store.specs.Cells.{Vacated, with_row};
 
 use std::alloc::Global;
 use std::marker::Model;
 use sv_memtable::{Frozen, MemCell};
-use sv_model::{Key, Op, OutOfMemory};
-
-/// How many cells there are.
-pub const MAX_CELLS: usize = 64;
+use sv_model::{Key, MAX_CELLS, Op, OutOfMemory};
 
 /// The 64 cells. Contracts see them as a list, with none where a cell is vacant.
 #[derive(Drop)]

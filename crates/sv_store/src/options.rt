@@ -15,12 +15,7 @@ impl Store {
     /// Sets an option of the family of the lane's handle of the name, and gives its new current, also where the value
     /// is the same; the one before is Gone. Refused as `BadOption` where the value is outside the option's range, then
     /// as `NotOpen` or `NoFamily` without a handle, then as `Dropped`, `RegisterFull` and `TooManyLive`.
-    pub fn set(
-        &mut self,
-        name: &Name,
-        option: OptionName,
-        value: u64,
-    ) -> Result<SvSerial, Refusal>
+    pub fn set(&mut self, name: &Name, option: OptionName, value: u64) -> Result<SvSerial, Refusal>
         ensures set { IfOk result (Sets self.old.books self.new.books name.now option value) }
         ensures refused { Refuses (first_due (set_refusal self.old.books.families 0 name.now option value ∷ make_refusal self.old.books.supers ∷ [])) result }
         ensures kept { OnErr result (self.new ≡ self.old) }

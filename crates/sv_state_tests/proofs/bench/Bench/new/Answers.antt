@@ -8,4 +8,4 @@ pub invariant_of-result : goal.invariant_of-result
 invariant_of-result c =
     let low : 1 ≤ c.args.next = omega (arith, c.if-next-eq0.false) in
     let high : c.args.next ≤ 18446744073709551615 = omega (arith, c.ranges.next.fits) in
-    subst (λ (z : Books). Stands z None) (sym c.in_ok-state.ensures) (opening c.args.next low high)
+    subst (λ (z : Books). Stands z None) (sym c.in_ok-state.ensures.books) (opening c.args.next low high)
