@@ -1,5 +1,5 @@
 -- Where nothing is wrong with the words and the script and nothing fails, the lines are answered.
-use Rattle.std.proofs.Common.{◌≡◌, ◌≤◌, ◌+◌, inl, inr, ℕ, List, [], ◌∷◌, length, Option, Some, None, Result, Ok, Err, refl, sym, ap, ◌∙◌, subst, arith}
+use Rattle.std.proofs.Common.{◌≡◌, ◌≤◌, ◌+◌, inl, inr, ℕ, true, false, List, [], ◌∷◌, length, Option, Some, None, Result, Ok, Err, refl, sym, ap, ◌∙◌, subst, arith}
 use Rattle.std.specs.Prelude.{IsSome, IsSomeAnd, IfSome, codes}
 use Rattle.sv_model.specs.declared.End.{End}
 use Rattle.sv_model.specs.declared.End.TheVariants as end
@@ -61,7 +61,7 @@ completes i d o (Some done) status.DirFault e are script holds reads asks writes
 completes i d o stands status.WriteFault e are script holds reads asks writes = absurd (writes e.rose)
 
 none_path : (o : Option (List ℕ)) → o ≡ None → IsSome o → ⊥
-none_path None e h = absurd h
+none_path None e h = absurd (let q : false ≡ true = h in cc)
 none_path (Some path) e h = absurd (cc)
 
 -- who asks for help asks for no run
