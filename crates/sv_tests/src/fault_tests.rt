@@ -1,12 +1,12 @@
 // Streams of which one call fails.
+use crate::directories::empty_dir;
+use crate::runs::{
+    PUT_AND_DELETE, PUT_AND_DELETE_REPORT, expect_text, run_over, sink_of, source_of, words_of,
+};
 use std::alloc::Global;
 use std::process::Abort;
 use std::test::Fail;
 use sv_run::{Status, run};
-use sv_test_kit::{
-    PUT_AND_DELETE, PUT_AND_DELETE_REPORT, empty_dir, expect_text, run_over, sink_of, source_of,
-    words_of,
-};
 
 // The script over a sink of which one call fails must end with this status, with this text written.
 fn expect_written(

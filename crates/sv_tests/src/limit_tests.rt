@@ -1,9 +1,9 @@
 // Scripts at the limits and beyond.
+use crate::runs::{EMPTY_REPORT, expect_run, expect_text, run_over, sink_of};
 use std::alloc::{AllocError, Global};
 use std::process::Abort;
 use std::test::Fail;
 use sv_run::{MemSource, Status};
-use sv_test_kit::{EMPTY_REPORT, expect_run, expect_text, run_over, sink_of};
 
 const AFTER_THE_ROWS: &str = "3073 refused 15 Stalled
 3074 found last cut 3072 sv 3

@@ -1,8 +1,8 @@
 // What is written where nothing runs.
+use crate::runs::expect_run;
 use std::test::Fail;
 use sv_run::Status;
 use sv_script::{BadKind, BadLine};
-use sv_test_kit::expect_run;
 
 // Each line is bad for the word beside it.
 const BAD_LINES: [(&str, &str); 23] = [

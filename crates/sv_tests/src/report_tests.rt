@@ -1,7 +1,7 @@
 // Whole reports of scripts that are good, written out by hand.
+use crate::runs::{EMPTY_REPORT, PUT_AND_DELETE, PUT_AND_DELETE_REPORT, expect_run};
 use std::alloc::{AllocError, Global};
 use std::test::Fail;
-use sv_test_kit::{EMPTY_REPORT, PUT_AND_DELETE, PUT_AND_DELETE_REPORT, expect_run};
 
 // Rows of one lane over `default`, and the report around its replies.
 const TAIL: &str = "lane 1 uses 0 misses 0 swept 0\n";

@@ -1,7 +1,8 @@
 // The streams of the machine. What standard input holds is not known here.
+use crate::directories::empty_dir;
+use crate::runs::words_of;
 use std::test::Fail;
 use sv_run::{Failed, Sink, Source, Status, StdSink, StdSource, run};
-use sv_test_kit::{empty_dir, words_of};
 
 #[test]
 fn reads_standard_input(rt: HostRuntime) {

@@ -1,12 +1,11 @@
 // The words that the program takes.
+use crate::directories::empty_dir;
+use crate::runs::{EMPTY_REPORT, expect_run, expect_text, run_over, sink_of, source_of, words_of};
 use std::alloc::Global;
 use std::process::Abort;
 use std::test::Fail;
 use sv_run::{Status, dir_word, run};
 use sv_script::{BadKind, BadLine};
-use sv_test_kit::{
-    EMPTY_REPORT, empty_dir, expect_run, expect_text, run_over, sink_of, source_of, words_of,
-};
 
 const USAGE: &str = "usage: svrun run [--dir PATH]\n       svrun trial N\n       svrun --help\n";
 
@@ -51,7 +50,8 @@ fn refuses_other_words(rt: HostRuntime) -> Result<(), Fail> {
         "walk,--dir,a",
         "walk,--dir=a",
         "--dir=a",
-        "--help",
+        "--help,run",
+        "help",
         "trial,0",
         "Run",
         "run ",
@@ -62,6 +62,25 @@ fn refuses_other_words(rt: HostRuntime) -> Result<(), Fail> {
         let words = words_of(alloc, line)?;
         expect_usage(&rt, alloc, words.as_slice())?;
     }
+    Ok(())
+}
+
+#[test]
+fn gives_help(rt: HostRuntime) -> Result<(), Fail> {
+    let alloc = rt.alloc();
+    let words = words_of(alloc, "--help")?;
+    let mut source = source_of(&rt, alloc, b"not read", 64, &[])?;
+    let mut sink = sink_of(&rt, alloc, 64, &[])?;
+    let ran = run(
+        alloc,
+        words.as_slice(),
+        &mut source,
+        empty_dir(alloc)?,
+        &mut sink,
+    );
+    assert_eq!(&rt; ran.status, Status::Ok);
+    assert!(&rt; ran.done.is_none());
+    expect_text(&rt, &sink, USAGE.as_bytes());
     Ok(())
 }
 

@@ -1,13 +1,12 @@
 // Directories of which each call fails in turn, in each way.
+use crate::directories::{expect_names, failing_dir};
+use crate::runs::{expect_over, expect_text, sink_of, source_of, words_of};
 use std::alloc::{AllocError, Global};
 use std::process::Abort;
 use std::test::Fail as Failure;
 use sv_dir::{Dir, DirError, How};
 use sv_model::End;
 use sv_run::{Status, run};
-use sv_test_kit::{
-    expect_names, expect_over, expect_text, failing_dir, sink_of, source_of, words_of,
-};
 
 const HOWS: [How; 3] = [How::Before, How::Half, How::After];
 

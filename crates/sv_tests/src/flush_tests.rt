@@ -1,8 +1,10 @@
 // Runs with flushes, and the files that they leave.
+use crate::directories::{empty_dir, expect_file, expect_names, failing_dir};
+use crate::runs::expect_over;
+use crate::short_dir::ShortDir;
 use std::fs;
 use std::test::Fail as Failure;
 use sv_dir::{How, RealDir};
-use sv_test_kit::{ShortDir, empty_dir, expect_file, expect_names, expect_over, failing_dir};
 
 const FLUSH_AND_GET: &str = "1 put default a 1
 1 get default a

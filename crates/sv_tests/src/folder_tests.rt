@@ -1,8 +1,9 @@
 // Directories that hold files already, and a folder that is not there.
+use crate::directories::{dir_of, expect_file, expect_names};
+use crate::runs::expect_over;
 use std::alloc::{AllocError, Global};
 use std::test::Fail as Failure;
 use sv_dir::RealDir;
-use sv_test_kit::{dir_of, expect_file, expect_names, expect_over};
 
 const FLUSH: &str = "1 put default a 1\n1 flush default\n";
 
