@@ -1,4 +1,4 @@
 mod Held
 pub mod Laws
 mod ReadBack
-mod Spelling
+mod SpelledNumbers

@@ -15,7 +15,7 @@ const LEAST_DIGITS: usize = 6;
 
 const MAX_DIGITS: usize = 12;
 
-#[tactic(auto, using(crate::proofs::Spelling::digit_is_byte))]
+#[tactic(auto, using(crate::proofs::SpelledNumbers::digit_is_byte))]
 fn push_digit(name: &mut ArrayString<24>, digit: u8)
     requires one_digit { digit < 10 }
     requires room { array_string_len name.old < 24 }
@@ -57,7 +57,7 @@ fn has_digits(text: &[u8]) -> bool
     text.iter().all(|byte| byte.is_ascii_digit())
 }
 
-#[tactic(auto, using(crate::proofs::Spelling::all_ascii_digits_is_all))]
+#[tactic(auto, using(crate::proofs::SpelledNumbers::all_ascii_digits_is_all))]
 fn is_spelled(digits: &[u8]) -> bool
     ensures { result ≡ is_spelled digits.now }
 {

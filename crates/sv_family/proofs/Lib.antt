@@ -1,4 +1,5 @@
-mod Changing
-mod Lawful
-mod Seeking
+mod ChangedFamilies
+mod LawfulFamilies
+pub mod SoughtFamilies
 mod OpenedFamilies
+pub mod OpenFamilies

@@ -1,5 +1,5 @@
 -- A family of which a lane is given a handle: the lane had none of it, so it is not `default`.
-use Rattle.std.proofs.Common.{◌≡◌, ◌<◌, ℕ, zero, suc, Bool, true, false, List, Option, Some, None, length, slice_get, refl, sym, ap, ◌∙◌, subst, arith}
+use Rattle.std.proofs.Common.{◌≡◌, ◌<◌, ℕ, zero, suc, Bool, true, false, List, Option, Some, None, slice_get, refl, sym, ap, ◌∙◌, subst, arith}
 use Rattle.std.specs.Prelude.{IsSomeAnd}
 use Rattle.sv_model.specs.declared.records.Family.{Family}
 use Rattle.sv_model.specs.declared.limits.TheConstants.{MAX_LANES}
@@ -7,7 +7,7 @@ use Rattle.sv_model.specs.Families.{AreFamilies, HasHandle, IsStanding}
 use Rattle.sv_model.proofs.Registers.{get-some}
 use Rattle.sv_family.specs.Calls.{IsFreshTo}
 use Rattle.sv_family.specs.Refused.{has_handle}
-use Rattle.sv_family.proofs.Seeking.{own_known}
+use Rattle.sv_family.proofs.SoughtFamilies.{own_known}
 
 module _ (families : List Family) (lane : ℕ) (name : List ℕ) (law : AreFamilies families) (few : lane < MAX_LANES)
     (unknown : has_handle families lane name ≡ false) (id : ℕ) (it : Family) (at : slice_get families id ≡ Some it)

@@ -19,7 +19,7 @@ use sv_model::{
 /// The families ever made. Contracts see the list of their records, by id from 0.
 #[derive(Drop)]
 pub struct Families {
-    families: Vec<Family>,
+    pub(crate) families: Vec<Family>,
 }
 
 impl Model for Families {
@@ -41,7 +41,7 @@ impl Families {
         ensures lawful { IfOk result (λ families. AreFamilies families) }
     {
         let mut families = Vec::new(alloc);
-        families.push(default_family(alloc)?)?;
+        families.push(default_family())?;
         Ok(Families { families })
     }
 

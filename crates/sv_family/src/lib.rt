@@ -3,6 +3,7 @@
 
 mod families;
 mod making;
+mod openings;
 mod ranges;
 mod sought;
 

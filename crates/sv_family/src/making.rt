@@ -3,22 +3,21 @@ ghost use Rattle.std.specs.Prelude.{◌≡◌, ◌<◌, IfOk};
 ghost use Rattle.sv_model.specs.Families.{default_family};
 ghost use Rattle.sv_family.specs.Calls.{new_family};
 
-use std::alloc::Global;
 use sv_model::{Family, MAX_LANES, Name, Options, OutOfMemory};
 
 // The family of which each lane has a handle.
-pub(crate) fn default_family(alloc: Global) -> Result<Family, OutOfMemory>
-    ensures { IfOk result (λ family. family ≡ default_family) }
+pub(crate) fn default_family() -> Family
+    ensures { result ≡ default_family }
 {
-    let Some(name) = Name::new(alloc, b"default")? else {
+    let Some(name) = Name::new(b"default") else {
         unreachable!();
     };
-    Ok(Family {
+    Family {
         name,
         options: Options::FIRST,
         dropped: false,
         handles: [true; 32],
-    })
+    }
 }
 
 // The family that a lane makes, which alone has a handle.

@@ -1,5 +1,4 @@
 // The calls by name, for tables of tests.
-use std::alloc::Global;
 use sv_family::Families;
 use sv_model::{FamilyId, MAX_LANES, Name, OptionName, Options, Refusal};
 
@@ -12,16 +11,12 @@ pub enum Call {
     Drop,
 }
 
-fn named(alloc: Global, bytes: &[u8]) -> Result<Name, Refusal> {
-    match Name::new(alloc, bytes)? {
-        Some(name) => Ok(name),
-        None => Err(Refusal::NoFamily),
-    }
+fn named(bytes: &[u8]) -> Result<Name, Refusal> {
+    Name::new(bytes).ok_or(Refusal::NoFamily)
 }
 
 // What the lane is answered.
 pub fn answer(
-    alloc: Global,
     families: &mut Families,
     lane: u8,
     call: Call,
@@ -30,7 +25,7 @@ pub fn answer(
     if lane >= MAX_LANES {
         return Err(Refusal::NoHold);
     }
-    let name = named(alloc, bytes)?;
+    let name = named(bytes)?;
     match call {
         Call::Create => families.create(lane, &name),
         Call::Find => families.find(lane, &name),
@@ -42,7 +37,6 @@ pub fn answer(
 
 // What the lane is answered where it sets an option, if a look beforehand is answered the same.
 pub fn set(
-    alloc: Global,
     families: &mut Families,
     lane: u8,
     bytes: &[u8],
@@ -52,7 +46,7 @@ pub fn set(
     if lane >= MAX_LANES {
         return Err(Refusal::NoHold);
     }
-    let name = named(alloc, bytes)?;
+    let name = named(bytes)?;
     let looked = families.check_option(lane, &name, option, value);
     let answered = families.set_option(lane, &name, option, value);
     if looked != answered {

@@ -32,7 +32,7 @@ fn sets_within_the_range(rt: HostRuntime) -> Result<(), Fail> {
         (MaxImmutable, 256, false),
         (MemtableRows, 1000, true),
     ] {
-        let answered = set(rt.alloc(), &mut families, 9, b"default", option, value);
+        let answered = set(&mut families, 9, b"default", option, value);
         match (option, fits) {
             (MemtableRows, true) => wanted.memtable_rows = value as u32,
             (MaxImmutable, true) => wanted.max_immutable = value as u8,
@@ -48,7 +48,7 @@ fn sets_within_the_range(rt: HostRuntime) -> Result<(), Fail> {
 #[test]
 fn refuses_in_order(rt: HostRuntime) -> Result<(), Fail> {
     let mut families = Families::new(rt.alloc())?;
-    let made = answer(rt.alloc(), &mut families, 0, Create, b"cold");
+    let made = answer(&mut families, 0, Create, b"cold");
     assert_eq!(rt; made, Ok(FamilyId(1)));
     for (lane, name, value, id) in [
         (0, "cold", 3, Ok(1)),
@@ -57,20 +57,13 @@ fn refuses_in_order(rt: HostRuntime) -> Result<(), Fail> {
         (1, "cold", 9, Err(out_of(9, 8))),
         (1, "cold", 8, Err(Refusal::NotOpen)),
     ] {
-        let answered = set(
-            rt.alloc(),
-            &mut families,
-            lane,
-            name.as_bytes(),
-            MaxImmutable,
-            value,
-        );
+        let answered = set(&mut families, lane, name.as_bytes(), MaxImmutable, value);
         assert_eq!(rt; answered, id.map(|id| FamilyId(id)));
     }
-    let dropped = answer(rt.alloc(), &mut families, 0, Drop, b"cold");
+    let dropped = answer(&mut families, 0, Drop, b"cold");
     assert_eq!(rt; dropped, Ok(FamilyId(1)));
     for (value, refusal) in [(9, out_of(9, 8)), (8, Refusal::Dropped)] {
-        let answered = set(rt.alloc(), &mut families, 0, b"cold", MaxImmutable, value);
+        let answered = set(&mut families, 0, b"cold", MaxImmutable, value);
         assert_eq!(rt; answered, Err(refusal));
     }
     let set = Options {

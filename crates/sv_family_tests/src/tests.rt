@@ -46,7 +46,7 @@ fn answers_in_turn(rt: HostRuntime) -> Result<(), Fail> {
         (31, Open, "default", Err(AlreadyOpen)),
         (31, Create, "default", Err(NameTaken)),
     ] {
-        let answered = answer(rt.alloc(), &mut families, lane, call, name.as_bytes());
+        let answered = answer(&mut families, lane, call, name.as_bytes());
         assert_eq!(rt; answered, id.map(|id| FamilyId(id)));
     }
     assert_eq!(rt; families.len(), 3);
@@ -64,7 +64,7 @@ fn letter(i: u8) -> [u8; 1]
 fn makes_sixteen(rt: HostRuntime) -> Result<(), Fail> {
     let mut families = Families::new(rt.alloc())?;
     for id in 1..MAX_FAMILIES as u8 {
-        let made = answer(rt.alloc(), &mut families, 0, Create, &letter(id));
+        let made = answer(&mut families, 0, Create, &letter(id));
         assert_eq!(rt; made, Ok(FamilyId(id)));
     }
     for (lane, call, name, id) in [
@@ -77,7 +77,7 @@ fn makes_sixteen(rt: HostRuntime) -> Result<(), Fail> {
         (0, Create, "a", Err(TooManyFamilies)),
         (0, Find, "o", Ok(15)),
     ] {
-        let answered = answer(rt.alloc(), &mut families, lane, call, name.as_bytes());
+        let answered = answer(&mut families, lane, call, name.as_bytes());
         assert_eq!(rt; answered, id.map(|id| FamilyId(id)));
     }
     Ok(())
@@ -99,7 +99,7 @@ fn retires_where_no_handle_is_left(rt: HostRuntime) -> Result<(), Fail> {
         (31, Release, Ok(1), true),
         (31, Find, Err(NoFamily), true),
     ] {
-        let answered = answer(rt.alloc(), &mut families, lane, call, b"cold");
+        let answered = answer(&mut families, lane, call, b"cold");
         assert_eq!(rt; answered, id.map(|id| FamilyId(id)));
         assert_eq!(rt; may_retire(&families, 1), retired);
         assert!(rt; !may_retire(&families, 0));
@@ -111,7 +111,7 @@ fn retires_where_no_handle_is_left(rt: HostRuntime) -> Result<(), Fail> {
 fn gives_the_id_again(rt: HostRuntime) -> Result<(), Fail> {
     let mut families = Families::new(rt.alloc())?;
     for name in ["a", "b", "a"] {
-        let made = answer(rt.alloc(), &mut families, 4, Create, name.as_bytes());
+        let made = answer(&mut families, 4, Create, name.as_bytes());
         assert_eq!(rt; made, Ok(FamilyId(1)));
         assert_eq!(rt; families.len(), 2);
         if families.len() > 1 {
@@ -119,7 +119,7 @@ fn gives_the_id_again(rt: HostRuntime) -> Result<(), Fail> {
             families.take_back();
         }
         assert_eq!(rt; families.len(), 1);
-        let found = answer(rt.alloc(), &mut families, 4, Find, name.as_bytes());
+        let found = answer(&mut families, 4, Find, name.as_bytes());
         assert_eq!(rt; found, Err(NoFamily));
     }
     Ok(())

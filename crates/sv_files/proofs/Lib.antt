@@ -1,11 +1,11 @@
-mod Answered
+mod AnswerLaws
+mod AscendingNumbers
 mod BookLaws
-mod Choosing
+mod ChosenItems
 mod GrabLaws
-mod Keeping
+mod KeptLaws
 mod NamedLaws
 mod NumbersLaws
 mod Registered
-mod Rising
 mod ScanLaws
 mod StrayLaws

@@ -7,7 +7,7 @@ use Rattle.sv_model.specs.Lists.{In, same, times}
 use Rattle.sv_model.specs.Numbers.{registered}
 use Rattle.sv_model.proofs.Lists.{total-append, in_times, times_in}
 use Rattle.sv_files.specs.Kept.{AddsStrays, obsolete_stray}
-use Rattle.sv_files.proofs.Choosing.{chosen_push, chosen-skip}
+use Rattle.sv_files.proofs.ChosenItems.{chosen_push, chosen-skip}
 
 map-push : (strays : List ℕ) (n : ℕ) → map obsolete_stray (strays ++ n ∷ []) ≡ map obsolete_stray strays ++ obsolete_stray n ∷ []
 map-push [] n = refl

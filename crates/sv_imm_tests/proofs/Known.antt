@@ -5,13 +5,14 @@ use Rattle.std.proofs.lemmas.Option.{same_Some}
 use Rattle.sv_model.specs.declared.records.MemtableList.{MemtableList}
 use Rattle.sv_model.specs.Named.{IsLiveList}
 use Rattle.sv_model.specs.Registers.{entry}
+use Rattle.sv_model.specs.declared.holders.TheConstants.{MAX_HOLDERS}
 use Rattle.sv_imm.specs.Changes.{IsMade, live_list}
 
 pub there : {A : Type 0} (all known : List A) (id : ℕ) (x : A) → all ≡ known → entry known id ≡ Some x → entry all id ≡ Some x
 there {A} all known id x e at = subst (λ (l : List A). entry l id ≡ Some x) (sym e) at
 
-pub few : {A : Type 0} (all known : List A) → all ≡ known → length known < 4294967295 → length all < 4294967295
-few {A} all known e less = subst (λ (l : List A). length l < 4294967295) (sym e) less
+pub few : {A : Type 0} (all known : List A) → all ≡ known → length known < MAX_HOLDERS → length all < MAX_HOLDERS
+few {A} all known e less = subst (λ (l : List A). length l < MAX_HOLDERS) (sym e) less
 
 -- the register before its last record
 pub before : {A : Type 0} (all known rest : List A) (x y : A) → all ≡ known ++ x ∷ [] → all ≡ rest ++ y ∷ [] → rest ≡ known

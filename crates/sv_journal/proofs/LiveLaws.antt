@@ -10,7 +10,7 @@ use Rattle.sv_model.specs.Registers.{entry, change}
 use Rattle.sv_model.proofs.Lists.{total-push}
 use Rattle.sv_model.proofs.Registers.{entry-old, entry-new, entry_push, entry_le, entry-else, entry_change, total-change, length-change}
 use Rattle.sv_laws.proofs.CutLaws.{cut-now}
-use Rattle.sv_laws.proofs.Growing.{get_within}
+use Rattle.sv_laws.proofs.GrownRegisters.{get_within}
 use Rattle.sv_model.proofs.Entries.{some, every_push, in-left, in-right}
 use Rattle.sv_laws.proofs.Apart.{false_true}
 use Rattle.sv_journal.specs.declared.live.LiveSnapshot.{LiveSnapshot}

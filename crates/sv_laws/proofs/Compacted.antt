@@ -14,7 +14,7 @@ use Rattle.sv_model.proofs.Registers.{entry-new}
 use Rattle.sv_laws.specs.NewCurrents.{IsCompacted}
 use Rattle.sv_laws.specs.Installs.{next_top, live_super}
 use Rattle.sv_model.proofs.Entries.{get_one, in-cons, in-none}
-use Rattle.sv_laws.proofs.Growing.{placed-set, placed-same}
+use Rattle.sv_laws.proofs.GrownRegisters.{placed-set, placed-same}
 use Rattle.sv_laws.proofs.StillFits.{join_reach, files-at}
 use Rattle.sv_laws.proofs.Installed.{installed}
 use Rattle.sv_laws.proofs.OpenFamilies.{of_f, options_are, ends-at, says, active-lives, list-lives, was, had, in-range, name-free, last-files, paired-set}

@@ -20,7 +20,7 @@ use Rattle.sv_laws.specs.NewCurrents.{IsFamilyMade}
 use Rattle.sv_laws.specs.Installs.{next_top, live_super}
 use Rattle.sv_model.proofs.Entries.{some, every_none, in-none}
 use Rattle.sv_model.proofs.Basics.{none_some}
-use Rattle.sv_laws.proofs.Growing.{get_within, placed-push}
+use Rattle.sv_laws.proofs.GrownRegisters.{get_within, placed-push}
 use Rattle.sv_laws.proofs.Installed.{installed}
 use Rattle.sv_laws.proofs.BorneRows.{unborne, unowned}
 use Rattle.sv_laws.proofs.BorneRows.{mem-within}

@@ -26,7 +26,7 @@ use Rattle.sv_laws.specs.Families.{ChangesFamily}
 use Rattle.sv_laws.specs.Growing.{IsPlaced}
 use Rattle.sv_model.proofs.Entries.{some}
 use Rattle.sv_model.proofs.Basics.{none_some}
-use Rattle.sv_laws.proofs.Growing.{placed_get, placed-goes, placed-set}
+use Rattle.sv_laws.proofs.GrownRegisters.{placed_get, placed-goes, placed-set}
 
 not-dropped : (b c : Bool) → (b ≡ true → c ≡ true) → c ≡ false → b ≡ false
 not-dropped false c h e = refl

@@ -21,7 +21,7 @@ use Rattle.sv_model.proofs.Registers.{entry-new, entry_push}
 use Rattle.sv_laws.specs.NewCurrents.{IsFlushed}
 use Rattle.sv_laws.specs.Installs.{next_top, live_super}
 use Rattle.sv_model.proofs.Entries.{some, every_push, in-cons, in-none, in-right, in_append}
-use Rattle.sv_laws.proofs.Growing.{placed-set, placed-same}
+use Rattle.sv_laws.proofs.GrownRegisters.{placed-set, placed-same}
 use Rattle.sv_laws.proofs.StillFits.{join-le, file-on, files-join-push, join_reach, files-at}
 use Rattle.sv_laws.proofs.Installed.{installed}
 use Rattle.sv_laws.proofs.OpenFamilies.{numbers_push, numbers-push, of_f, options_are, ends-at, says, active-lives, member, was, had, in-range, name-free, last-files, paired-set}

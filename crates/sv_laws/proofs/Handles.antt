@@ -12,7 +12,7 @@ use Rattle.sv_model.proofs.Lists.{total_at}
 use Rattle.sv_laws.specs.Families.{IsDropped, IsOpened, IsReleased, IsRetired, IsCurrentEnded, released}
 use Rattle.sv_model.proofs.Entries.{some}
 use Rattle.sv_model.proofs.Registers.{get-some}
-use Rattle.sv_laws.proofs.Growing.{get_within}
+use Rattle.sv_laws.proofs.GrownRegisters.{get_within}
 use Rattle.sv_laws.proofs.FamilyChanges.{family-changed}
 use Rattle.sv_laws.proofs.Apart.{false_true}
 

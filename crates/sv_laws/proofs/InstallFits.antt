@@ -27,7 +27,7 @@ use Rattle.sv_model.proofs.Registers.{entry-old, entry-new, entry_push, entry_le
 use Rattle.sv_model.proofs.AfterLaws.{continues-itself}
 use Rattle.sv_laws.specs.Installs.{Installs, IsNewMemtable, IsNewVersion}
 use Rattle.sv_model.proofs.Entries.{some}
-use Rattle.sv_laws.proofs.Growing.{grown_entry, grown-old, placed_get}
+use Rattle.sv_laws.proofs.GrownRegisters.{grown_entry, grown-old, placed_get}
 use Rattle.sv_laws.proofs.Settled.{settled-others, settled_other, numbers-settled, marked-captured_numbers}
 use Rattle.sv_laws.proofs.StillFits.{last-on, describes-on, join-le}
 use Rattle.sv_laws.proofs.InstallNames.{memtables-on, lists-on, versions-on, numbers-on}

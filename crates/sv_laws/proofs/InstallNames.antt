@@ -22,7 +22,7 @@ use Rattle.sv_model.proofs.Registers.{goes-same}
 use Rattle.sv_model.proofs.AfterLaws.{memtable-itself, list-itself, version-itself, number-itself}
 use Rattle.sv_laws.specs.Installs.{Installs, IsNewMemtable, IsNewList, IsNewVersion}
 use Rattle.sv_model.proofs.Entries.{some, has-old, has-new, has_push}
-use Rattle.sv_laws.proofs.Growing.{grown_entry, grown-old, grown-goes, grown-has, placed_get}
+use Rattle.sv_laws.proofs.GrownRegisters.{grown_entry, grown-old, grown-goes, grown-has, placed_get}
 use Rattle.sv_laws.proofs.Settled.{marked-goes, marked-keeps, marked_is}
 use Rattle.sv_laws.proofs.Apart.{live_pending, pending_gone}
 

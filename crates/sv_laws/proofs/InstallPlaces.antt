@@ -15,7 +15,7 @@ use Rattle.sv_model.specs.Lawful.{Lawful}
 use Rattle.sv_model.specs.Steady.{Sound}
 use Rattle.sv_model.proofs.Registers.{entry_push}
 use Rattle.sv_laws.specs.Installs.{Installs, IsNewMemtable}
-use Rattle.sv_laws.proofs.Growing.{grown_entry, placed_get}
+use Rattle.sv_laws.proofs.GrownRegisters.{grown_entry, placed_get}
 use Rattle.sv_laws.proofs.Settled.{marked-captures}
 
 module _ (a b : Books) (k : Sound a) (f : ℕ) (r : Family) (x : SuperVersion) (h : Installs a b f r x) where

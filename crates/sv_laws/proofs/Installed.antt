@@ -25,7 +25,7 @@ use Rattle.sv_model.proofs.AfterLaws.{continues-itself, super-itself, family-its
 use Rattle.sv_laws.specs.Installs.{Installs, IsNewMemtable, IsNewList, IsNewVersion}
 use Rattle.sv_model.proofs.Entries.{some}
 use Rattle.sv_model.proofs.Basics.{none_some}
-use Rattle.sv_laws.proofs.Growing.{grown_entry, grown-old, grown-longer, grown-shorter, grown-total, placed_get, placed-goes, get_within}
+use Rattle.sv_laws.proofs.GrownRegisters.{grown_entry, grown-old, grown-longer, grown-shorter, grown-total, placed_get, placed-goes, get_within}
 use Rattle.sv_laws.proofs.Settled.{settled-captured}
 use Rattle.sv_laws.proofs.StillFits.{awaited-on, reach-on, join_in}
 use Rattle.sv_laws.proofs.InstallNames.{memtables-on, lists-on, versions-on, numbers-on, memtables_law, lists_law, versions_law, files_law}

@@ -1,5 +1,5 @@
 pub mod Apart
-pub mod Growing
+pub mod GrownRegisters
 pub mod Registers
 pub mod BorneRows
 pub mod Settled

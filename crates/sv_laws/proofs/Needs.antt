@@ -17,6 +17,7 @@ use Rattle.sv_model.specs.Books.{Books}
 use Rattle.sv_model.specs.Numbers.{IsRegistered}
 use Rattle.sv_model.specs.Described.{MembersJoin}
 use Rattle.sv_model.specs.Steady.{Sound, IsCurrent}
+use Rattle.sv_model.specs.declared.holders.TheConstants.{MAX_HOLDERS}
 use Rattle.sv_model.proofs.Registers.{entry-else, total-change, goes-change}
 use Rattle.sv_model.proofs.AfterLaws.{memtable-itself}
 use Rattle.sv_model.proofs.NumberLaws.{one_entry}
@@ -58,13 +59,13 @@ few-live J f (n ∷ ms) M from to j lives =
     omega (arith, rest, less, one)
 
 module _ (a : Books) (k : Sound a) where
-  pub few-lists : length a.lists < 4294967295
+  pub few-lists : length a.lists < MAX_HOLDERS
   few-lists = omega (arith, k.steady.lists_made, k.lawful.limits.supers)
 
-  pub few-memtables : length a.memtables < 4294967295
+  pub few-memtables : length a.memtables < MAX_HOLDERS
   few-memtables = omega (arith, k.steady.memtables_made, k.lawful.limits.supers)
 
-  pub few-versions : length a.versions < 4294967295
+  pub few-versions : length a.versions < MAX_HOLDERS
   few-versions = omega (arith, k.steady.versions_made, k.lawful.limits.supers)
 
   -- a current is of one family: one that was and is no more is current of none

@@ -7,7 +7,7 @@ use Rattle.sv_model.specs.declared.records.RegisteredFile.{RegisteredFile}
 use Rattle.sv_model.specs.Lists.{In, same, times}
 use Rattle.sv_model.specs.Numbers.{AreInOrder, IsRegistered, registered}
 use Rattle.sv_model.specs.Summaries.{is_obsolete, obsolete_of, obsolete_registered}
-use Rattle.sv_model.proofs.Ascending.{ascending_one, in-here, in-later, in_cons, in_none}
+use Rattle.sv_model.proofs.AscendingLists.{ascending_one, in-here, in-later, in_cons, in_none}
 use Rattle.sv_model.proofs.Freed.{distinct_times}
 
 obsolete_or : (s : FileStatus) → (s ≡ Obsolete) ⊎ (is_obsolete s ≡ false)

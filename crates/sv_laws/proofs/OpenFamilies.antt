@@ -24,7 +24,7 @@ use Rattle.sv_model.proofs.Entries.{some, in-cons, in-suc}
 use Rattle.sv_model.proofs.Registers.{get-some}
 use Rattle.sv_laws.proofs.StillFits.{files-at, join_in}
 use Rattle.sv_laws.proofs.BorneRows.{unborne, mem-within}
-use Rattle.sv_laws.proofs.Growing.{get_within}
+use Rattle.sv_laws.proofs.GrownRegisters.{get_within}
 
 -- a current is that of a family, and as lawful books have it
 pub current-top : (a : Books) → Lawful a → (g s : ℕ) (t : Top) → slice_get a.tops g ≡ Some t → t.current ≡ Some s

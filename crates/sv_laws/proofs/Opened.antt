@@ -22,7 +22,7 @@ use Rattle.sv_model.specs.Openings.{IsOpening, first_super, first_memtable, open
 use Rattle.sv_model.proofs.Entries.{some, in-none, get_one, every_none, entry_none, get_none, entry_one}
 use Rattle.sv_model.proofs.Basics.{none_some}
 use Rattle.sv_model.proofs.Registers.{get-some}
-use Rattle.sv_laws.proofs.Growing.{get_within}
+use Rattle.sv_laws.proofs.GrownRegisters.{get_within}
 use Rattle.sv_laws.proofs.BorneRows.{unborne}
 
 bits : {A : Type 0} (live : A → Bool) (l : List A) → total (λ x. bit (live x)) l ≤ length l

@@ -8,7 +8,7 @@ use Rattle.sv_model.specs.Steady.{Sound}
 use Rattle.sv_laws.specs.NewCurrents.{IsOptionSet}
 use Rattle.sv_laws.specs.Installs.{next_top, live_super}
 use Rattle.sv_laws.proofs.Installed.{installed}
-use Rattle.sv_laws.proofs.Growing.{placed-set}
+use Rattle.sv_laws.proofs.GrownRegisters.{placed-set}
 use Rattle.sv_laws.proofs.OpenFamilies.{of_f, ends-at, says, active-lives, list-lives, version-lives, was, had, name-free, last-same, paired-set}
 use Rattle.sv_laws.proofs.OpenFamilies.{last-still, has-handles}
 

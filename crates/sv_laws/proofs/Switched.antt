@@ -18,7 +18,7 @@ use Rattle.sv_laws.specs.Installs.{next_top, live_super}
 use Rattle.sv_model.proofs.Entries.{some, in_append, in-cons, in-none}
 use Rattle.sv_laws.proofs.StillFits.{join-on, join-append}
 use Rattle.sv_laws.proofs.Installed.{installed}
-use Rattle.sv_laws.proofs.Growing.{placed-set, placed-same}
+use Rattle.sv_laws.proofs.GrownRegisters.{placed-set, placed-same}
 use Rattle.sv_laws.proofs.OpenFamilies.{of_f, options_are, ends-at, says, active-lives, version-lives, member, was, had, in-range, name-free, last-same, paired-set, fresh-mem}
 use Rattle.sv_laws.proofs.OpenFamilies.{last-still, has-handles}
 

@@ -24,7 +24,7 @@ use Rattle.sv_model.proofs.KeyOrder.{same_eq, same_yes, below_other}
 use Rattle.sv_memtable.specs.Index.{numbers_of_key, numbers_at, IsIndexed, numbered_row}
 use Rattle.sv_memtable.specs.Freezing.{IsFrozenOf}
 use Rattle.sv_memtable.proofs.NumberedRows.{LeadsBack, all_lead_back}
-use Rattle.sv_memtable.proofs.Indexing.{IsOfRow, numbers_within}
+use Rattle.sv_memtable.proofs.IndexLaws.{IsOfRow, numbers_within}
 use Rattle.sv_memtable.proofs.FrozenRows.{EachPair, all_weaker, all_reverse, pairs_reverse, before, ordered_from_pairs, added_rise}
 
 -- the rows of these numbers, list by list, of each list the last first

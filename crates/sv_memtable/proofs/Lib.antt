@@ -1,5 +1,5 @@
 pub mod CopiedRows
 pub mod FrozenRows
-pub mod Indexing
+pub mod IndexLaws
 pub mod NumberedRows
 pub mod PartedNumbers

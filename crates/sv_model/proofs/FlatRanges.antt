@@ -2,7 +2,7 @@
 use Rattle.std.proofs.Common.{◌≡◌, ℕ, zero, suc, ◌≤◌, ◌+◌, ◌-◌, List, [], ◌∷◌, ◌++◌, length, map, reverse, take, drop, Option, Some, None, refl, sym, ap, ◌∙◌, arith}
 use Rattle.std.specs.Option.{option_map, option_or}
 use Rattle.std.specs.List.{find}
-use Rattle.std.proofs.lemmas.List.{map-append, reverse-append, length-map, length-drop, take_all, take-map}
+use Rattle.std.proofs.lemmas.List.{reverse-append, length-map, length-drop, take_all, take-map}
 use Rattle.std.proofs.lemmas.List.Folds.{find-append}
 use Rattle.sv_model.specs.declared.writes.Write.{Write}
 use Rattle.sv_model.specs.declared.writes.Row.{Row}

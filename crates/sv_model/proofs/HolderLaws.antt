@@ -8,6 +8,7 @@ use Rattle.sv_model.specs.Lists.{IsChosen, total, times}
 use Rattle.sv_model.specs.Named.{IsLive}
 use Rattle.sv_model.specs.Registers.{entry, change, Has}
 use Rattle.sv_model.specs.Holders.{Holds, namings, AreCounted, IsLetGo}
+use Rattle.sv_model.specs.declared.holders.TheConstants.{MAX_HOLDERS}
 use Rattle.sv_model.proofs.Lists.{total-push, times_in, in_times}
 use Rattle.sv_model.proofs.Registers.{entry_le, entry_push, entry-old, entry-new, entry_change, entry-code, change-code, total_entry, has_total, total-change, length-change}
 use Rattle.sv_model.proofs.Freed.{chosen-same}
@@ -127,7 +128,7 @@ module _ {A : Type 0} (numbers : A → List ℕ) (live : A → Bool) (sound : A 
     few = so.few;
   })
 
-  pub counted-added : (l now : List A) (counts new : Counts) (x : A) → now ≡ l ++ x ∷ [] → AreCounted numbers live sound l counts → live x ≡ true → sound x → length l < 4294967295 → ((n : ℕ) → count_of new n ≡ count_of counts n + times n (numbers x)) → AreCounted numbers live sound now new
+  pub counted-added : (l now : List A) (counts new : Counts) (x : A) → now ≡ l ++ x ∷ [] → AreCounted numbers live sound l counts → live x ≡ true → sound x → length l < MAX_HOLDERS → ((n : ℕ) → count_of new n ≡ count_of counts n + times n (numbers x)) → AreCounted numbers live sound now new
   counted-added l now counts new x now_is so is x_sound few up = subst (λ z. AreCounted numbers live sound z new) (sym now_is) (record {
     counted = λ n.
         let a = up n in

@@ -1,6 +1,7 @@
 pub mod AfterLaws
-pub mod Ascending
+pub mod AscendingLists
 pub mod Basics
+pub mod CountLoops
 pub mod Entries
 pub mod FlatEnds
 pub mod FlatFirsts
@@ -13,13 +14,12 @@ pub mod Freed
 pub mod HolderLaws
 pub mod KeyOrder
 pub mod Lists
-pub mod Lowering
 pub mod Metas
 pub mod NumberLaws
 pub mod PassedRows
 pub mod PlaceLaws
 pub mod PlacedLaws
 pub mod Ranges
-pub mod Refusing
+pub mod RefusalLaws
 pub mod Registers
 pub mod SearchLaws

@@ -1,6 +1,7 @@
 -- Registers of holders: records that name objects by their numbers while they are Live.
 use Rattle.std.specs.Prelude.{◌≡◌, ◌≤◌, ℕ, Bool, true, cond, List, Some, length}
 use Rattle.sv_model.specs.declared.counts.Counts.{Counts}
+use Rattle.sv_model.specs.declared.holders.TheConstants.{MAX_HOLDERS}
 use Rattle.sv_model.specs.Counts.{count_of}
 use Rattle.sv_model.specs.Lists.{In, IsChosen, total, times}
 use Rattle.sv_model.specs.Registers.{entry, change, Has, EachEntry}
@@ -18,7 +19,7 @@ namings numbers live n x = cond (live x) (times n (numbers x)) 0
 pub record AreCounted {A : Type 0} (numbers : A → List ℕ) (live : A → Bool) (sound : A → Type 0) (register : List A) (counts : Counts) : Type 0 where
   pub counted : (n : ℕ) → count_of counts n ≡ total (namings numbers live n) register
   pub each : EachEntry (λ n x. sound x) register
-  pub few : length register ≤ 4294967295
+  pub few : length register ≤ MAX_HOLDERS
 
 -- The holder is Gone. Given are the numbers that it named and no other Live holder names, in its order, each once.
 pub record IsLetGo {A : Type 0} (numbers : A → List ℕ) (live : A → Bool) (ends : A → A) (old : List A) (id : ℕ) (new : List A) (answer : List ℕ) : Type 0 where

@@ -30,5 +30,5 @@ value_refusal n = cond (nat_le n MAX_VALUE) None (Some (refusal.ValueLength n))
 -- the first refusal that is due
 abbrev pub first_due : List (Option Refusal) → Option Refusal
 first_due [] = None
-first_due (None ∷ faults) = first_due faults
-first_due (Some e ∷ faults) = Some e
+first_due (None ∷ refusals) = first_due refusals
+first_due (Some e ∷ refusals) = Some e

@@ -4,7 +4,7 @@ use Rattle.std.specs.Prelude.{ℕ, Bool, cond, List, [], Option, None, Some, sli
 use Rattle.sv_model.specs.declared.records.Family.{Family}
 use Rattle.sv_model.specs.declared.records.FileMeta.{FileMeta}
 use Rattle.sv_model.specs.declared.records.Snapshot.{Snapshot}
-use Rattle.sv_model.specs.Lists.{at, total, same, times, bit}
+use Rattle.sv_model.specs.Lists.{at, total, same, bit}
 use Rattle.sv_model.specs.Registers.{entry}
 
 -- a captured number with what its file is to cover, and whether the file was written

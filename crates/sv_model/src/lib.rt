@@ -10,6 +10,7 @@ mod item_list;
 mod keys;
 mod limits;
 mod names;
+mod openings;
 mod placed;
 mod raising;
 mod records;
@@ -34,6 +35,7 @@ pub use limits::{
     MAX_SNAPSHOTS, MAX_SNAPSHOTS_LIVE, MAX_SUPERS, MAX_WRITES,
 };
 pub use names::{MAX_NAME, Name};
+pub use openings::{OpenFamily, Opening};
 pub use placed::{MAX_PLACED, Placed, PlacedRegister};
 pub use records::{
     Descriptor, Family, FileMeta, FileStatus, Memtable, MemtableList, RegisteredFile, Snapshot,

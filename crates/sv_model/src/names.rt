@@ -1,10 +1,9 @@
 // The name of a column family, seen by contracts as its bytes.
-ghost use Rattle.std.specs.Prelude.{◌≡◌, IfOk, IsTrue};
+ghost use Rattle.std.specs.Prelude.{◌≡◌, ◌≤◌, IfOk, IsTrue, IfSome, IsSome, Some, option_map};
 ghost use Rattle.std.specs.List.{list_all};
 ghost use Rattle.sv_model.specs.Names.{is_name, is_name_byte, name_of};
 
-use crate::faults::OutOfMemory;
-use std::alloc::{AllocError, Global};
+use std::alloc::AllocError;
 use std::marker::Model;
 
 /// The greatest number of bytes of a name.
@@ -13,18 +12,21 @@ pub const MAX_NAME: usize = 32;
 /// A name: 1 to 32 bytes of `a` to `z`, `0` to `9` and `_`.
 #[derive(Drop, Debug)]
 pub struct Name {
-    bytes: Vec<u8>,
+    /// The name, and zeros after it.
+    bytes: [u8; MAX_NAME],
+    len: u8,
 }
 
 impl Model for Name {
-    ghost use Rattle.std.specs.Prelude.{ℕ, List, IsTrue};
+    ghost use Rattle.std.specs.Prelude.{ℕ, List, IsTrue, ◌≤◌, take};
     ghost use Rattle.sv_model.specs.Names.{is_name};
+    ghost use Rattle.sv_model.specs.declared.names.TheConstants.{MAX_NAME};
 
     ghost Value = { List ℕ };
 
-    ghost view = { λ n. n.bytes.items };
+    ghost view = { λ n. take n.len n.bytes };
 
-    ghost invariant = { λ n. IsTrue (is_name n.bytes.items) };
+    ghost invariant = { λ n. (n.len ≤ MAX_NAME) × IsTrue (is_name (take n.len n.bytes)) };
 }
 
 fn is_name_byte(byte: u8) -> bool
@@ -49,15 +51,19 @@ fn is_name(bytes: &[u8]) -> bool
 }
 
 impl Name {
-    /// The name of these bytes; none exactly where they are no name.
-    pub fn new(alloc: Global, bytes: &[u8]) -> Result<Option<Name>, OutOfMemory>
-        ensures made { IfOk result (λ name. name ≡ name_of bytes.now) }
+    /// The name of these bytes; none exactly where they are no name. Takes no memory.
+    pub fn new(bytes: &[u8]) -> Option<Name>
+        ensures made { result ≡ name_of bytes.now }
     {
         if !is_name(bytes) {
-            return Ok(None);
+            return None;
         }
-        let bytes = bytes.to_vec(alloc)?;
-        Ok(Some(Name { bytes }))
+        let mut kept = [0; MAX_NAME];
+        kept[..bytes.len()].copy_from_slice(bytes);
+        Some(Name {
+            bytes: kept,
+            len: bytes.len() as u8,
+        })
     }
 
     /// The bytes.
@@ -65,7 +71,7 @@ impl Name {
         ensures bytes { result.now ≡ self.now }
         ensures lawful { IsTrue (is_name self.now) }
     {
-        self.bytes.as_slice()
+        &self.bytes[..self.len as usize]
     }
 }
 
@@ -73,8 +79,9 @@ impl Clone for Name {
     ghost is_clone = { λ name copy. copy ≡ name };
 
     fn clone(&self) -> Result<Name, AllocError> {
-        let alloc = *self.bytes.allocator();
-        let bytes = self.bytes.as_slice().to_vec(alloc)?;
-        Ok(Name { bytes })
+        Ok(Name {
+            bytes: self.bytes,
+            len: self.len,
+        })
     }
 }

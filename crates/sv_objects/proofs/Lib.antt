@@ -1,2 +1,2 @@
 mod CleanLaws
-mod Undoing
+mod LastMade

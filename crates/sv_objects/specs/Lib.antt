@@ -1,3 +1,4 @@
 pub mod Cleanups
 pub mod Makings
+pub mod Openings
 pub mod Shown

@@ -6,6 +6,7 @@ mod bodies;
 mod cleanup;
 mod making;
 mod objects;
+mod openings;
 
 pub use bodies::{Body, Held};
 pub use objects::Objects;

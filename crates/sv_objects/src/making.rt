@@ -23,7 +23,7 @@ use sv_registry::Registry;
 use sv_version::MAX_VERSIONS;
 
 // A SuperVersion with its reference.
-fn make_ref(
+pub(crate) fn make_ref(
     supers: &mut Registry,
     alloc: Global,
     descriptor: Descriptor,
@@ -57,7 +57,7 @@ fn body_of(descriptor: &Descriptor, cell: u8, held: Held) -> Body
 }
 
 // The cell of a memtable that was made.
-fn cell_of(memtables: &MemtableRegister, mem: MemId) -> u8
+pub(crate) fn cell_of(memtables: &MemtableRegister, mem: MemId) -> u8
     requires { (0 < mem) × (mem ≤ length memtables.now) }
     ensures { IsCellOf memtables.now mem result }
 {

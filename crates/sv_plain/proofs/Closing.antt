@@ -30,7 +30,7 @@ use Rattle.sv_plain.specs.Held.{Both, Holds}
 use Rattle.sv_plain.specs.Removed.{CountsAs, IsRemoval, MayBeGone, Removes, count_obsolete}
 use Rattle.sv_plain.specs.Stands.{IsKept, IsStore, Stands}
 use Rattle.sv_plain.specs.Store.{last_files, top_of}
-use Rattle.sv_model.proofs.Ascending.{length-ascending}
+use Rattle.sv_model.proofs.AscendingLists.{length-ascending}
 use Rattle.sv_model.proofs.NumberLaws.{entries_apart}
 use Rattle.sv_plain.proofs.Ending.{some_entry}
 use Rattle.sv_plain.proofs.Lasts.{entry_last, live_last}

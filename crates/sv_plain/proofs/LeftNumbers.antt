@@ -5,7 +5,7 @@ use Rattle.sv_model.specs.declared.RegisteredFile.{RegisteredFile}
 use Rattle.sv_model.specs.Lists.{In}
 use Rattle.sv_model.specs.Registers.{entry}
 use Rattle.sv_model.specs.Numbers.{AreInOrder, IsMarked, IsRegistered}
-use Rattle.sv_model.proofs.Ascending.{Rises, rises_from, in-here, in-later, in_cons, in_none}
+use Rattle.sv_model.proofs.AscendingLists.{Rises, rises_from, in-here, in-later, in_cons, in_none}
 use Rattle.sv_model.proofs.Registers.{entry_change, entry-else}
 use Rattle.sv_plain.specs.Outcomes.{IsLeastObsolete}
 

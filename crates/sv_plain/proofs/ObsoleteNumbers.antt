@@ -6,7 +6,7 @@ use Rattle.sv_model.specs.declared.RegisteredFile.{RegisteredFile}
 use Rattle.sv_model.specs.Lists.{In, same, times}
 use Rattle.sv_model.specs.Numbers.{AreInOrder, IsRegistered, registered}
 use Rattle.sv_model.specs.Summaries.{is_obsolete, obsolete_of, obsolete_registered}
-use Rattle.sv_model.proofs.Ascending.{ascending_one, in-here, in-later, in_cons, in_none}
+use Rattle.sv_model.proofs.AscendingLists.{ascending_one, in-here, in-later, in_cons, in_none}
 use Rattle.sv_model.proofs.Freed.{distinct_times}
 use Rattle.sv_model.proofs.Registers.{total_entry}
 use Rattle.sv_plain.specs.Removed.{count_obsolete}

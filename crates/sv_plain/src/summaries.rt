@@ -12,11 +12,11 @@ use sv_model::{
     End, FamilyId, FamilyLine, FileMeta, FileNumber, Items, Name, OutOfMemory, Summary, Totals,
 };
 
-fn default_name(alloc: Global) -> Result<Name, OutOfMemory>
-    ensures { IfOk result (λ name. name ≡ codes "default") }
+fn default_name() -> Name
+    ensures { result ≡ codes "default" }
 {
-    match Name::new(alloc, b"default")? {
-        Some(name) => Ok(name),
+    match Name::new(b"default") {
+        Some(name) => name,
         None => unreachable!(),
     }
 }
@@ -34,7 +34,7 @@ impl Parts {
         requires { Keeps self.now }
         ensures { IfOk result (λ line. line ≡ family_line self.now.journal.items self.now.versions 0 default_family (top_from self.now.is_open (length self.now.registry) (length self.now.versions))) }
     {
-        let name = default_name(self.alloc)?;
+        let name = default_name();
         let files = file_numbers(self.alloc, self.versions.files(self.last))?;
         Ok(FamilyLine {
             id: FamilyId(0),

@@ -9,7 +9,7 @@ use Rattle.sv_model.specs.Registers.{entry}
 use Rattle.sv_model.proofs.Basics.{apart_or}
 use Rattle.sv_model.proofs.Registers.{entry_change, entry_push}
 use Rattle.sv_laws.specs.Snapping.{IsSnapped, IsUnsnapped}
-use Rattle.sv_laws.proofs.Growing.{get_within}
+use Rattle.sv_laws.proofs.GrownRegisters.{get_within}
 use Rattle.sv_replies.specs.Known.{Known, with_at}
 use Rattle.sv_replies.specs.Knows.{AllAreOwn, OwnAre}
 use Rattle.sv_replies.specs.SnapLaw.{IsOver}

@@ -16,7 +16,7 @@ use Rattle.sv_model.proofs.Registers.{entry-new, entry_le}
 use Rattle.sv_laws.specs.Families.{IsDropped, IsOpened}
 use Rattle.sv_laws.specs.Installs.{live_super}
 use Rattle.sv_laws.specs.NewCurrents.{IsFamilyMade, IsOptionSet}
-use Rattle.sv_laws.proofs.Growing.{placed-push, placed-set}
+use Rattle.sv_laws.proofs.GrownRegisters.{placed-push, placed-set}
 use Rattle.sv_laws.proofs.OpenFamilies.{of_f}
 use Rattle.sv_script.specs.declared.commands.Command.TheVariants as command
 use Rattle.sv_script.specs.declared.replies.Reply.TheVariants as reply

@@ -20,7 +20,7 @@ use Rattle.sv_laws.specs.Changes.{Changes, cleaned, compacted, created, current_
 use Rattle.sv_laws.specs.Cleaning.{IsCleaned}
 use Rattle.sv_laws.specs.Growing.{IsPlaced}
 use Rattle.sv_laws.specs.Installs.{live_super, next_top}
-use Rattle.sv_laws.proofs.Growing.{placed-push, placed-set}
+use Rattle.sv_laws.proofs.GrownRegisters.{placed-push, placed-set}
 use Rattle.sv_model.proofs.Entries.{entry_one, in-right, some}
 use Rattle.sv_laws.proofs.OpenFamilies.{current-top, of_f}
 use Rattle.sv_replies.specs.FrozenActives.{ActivesAreFrozen, IsActiveOrListed, WasListed}

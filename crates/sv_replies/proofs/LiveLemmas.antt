@@ -13,7 +13,7 @@ use Rattle.sv_model.specs.Named.{numbers_of}
 use Rattle.sv_model.specs.Registers.{entry}
 use Rattle.sv_model.specs.Steady.{IsCurrent, Sound}
 use Rattle.sv_laws.specs.Installs.{IsOpen}
-use Rattle.sv_laws.proofs.Growing.{get_within}
+use Rattle.sv_laws.proofs.GrownRegisters.{get_within}
 use Rattle.sv_model.proofs.Entries.{in-suc, some}
 use Rattle.sv_laws.proofs.OpenFamilies.{of_f, one-current, says}
 use Rattle.sv_script.specs.declared.commands.Command.TheVariants as command

@@ -8,7 +8,7 @@ use Rattle.sv_model.specs.Lawful.{Lawful}
 use Rattle.sv_model.specs.Lists.{In}
 use Rattle.sv_model.specs.Moments.{WasCapturedFor}
 use Rattle.sv_model.specs.Named.{numbers_of}
-use Rattle.sv_laws.proofs.Growing.{get_within}
+use Rattle.sv_laws.proofs.GrownRegisters.{get_within}
 use Rattle.sv_model.proofs.Registers.{get-some}
 use Rattle.sv_model.proofs.Entries.{in-none, some}
 use Rattle.sv_replies.specs.Known.{Known}

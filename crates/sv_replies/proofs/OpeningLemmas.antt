@@ -8,7 +8,7 @@ use Rattle.sv_model.specs.Books.{Books}
 use Rattle.sv_model.specs.Registers.{entry}
 use Rattle.sv_model.specs.Families.{IsOwn, default_family, default_name}
 use Rattle.sv_model.specs.Openings.{IsOpening, opening_books}
-use Rattle.sv_laws.proofs.Growing.{get_within}
+use Rattle.sv_laws.proofs.GrownRegisters.{get_within}
 use Rattle.sv_model.proofs.Entries.{some}
 use Rattle.sv_replies.specs.Known.{at_first}
 use Rattle.sv_replies.specs.Knows.{AllAreOwn, Knows, OwnAre}

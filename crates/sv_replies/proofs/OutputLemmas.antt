@@ -14,7 +14,7 @@ use Rattle.sv_model.specs.Steady.{Sound}
 use Rattle.sv_model.specs.Registers.{entry}
 use Rattle.sv_model.proofs.Registers.{entry-new}
 use Rattle.sv_laws.proofs.Settled.{marked-here}
-use Rattle.sv_laws.proofs.Growing.{placed-set}
+use Rattle.sv_laws.proofs.GrownRegisters.{placed-set}
 use Rattle.sv_laws.proofs.StillFits.{files-at}
 use Rattle.sv_replies.specs.Knows.{LastReaches}
 use Rattle.sv_replies.specs.Moments.{IsAt}

@@ -11,7 +11,7 @@ use Rattle.sv_model.proofs.Basics.{apart_or, none_some}
 use Rattle.sv_laws.specs.Families.{IsDropped, IsOpened, released}
 use Rattle.sv_laws.specs.Growing.{IsPlaced}
 use Rattle.sv_laws.specs.NewCurrents.{IsFamilyMade, IsOptionSet}
-use Rattle.sv_laws.proofs.Growing.{get_within, placed-push, placed-set}
+use Rattle.sv_laws.proofs.GrownRegisters.{get_within, placed-push, placed-set}
 use Rattle.sv_model.proofs.Registers.{get-some}
 use Rattle.sv_model.proofs.Entries.{some}
 use Rattle.sv_replies.specs.Known.{Known, as_dropped, has_handle, learns, with_handle}

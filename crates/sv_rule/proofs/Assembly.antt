@@ -24,9 +24,9 @@ use Rattle.sv_rule.specs.UnderWay.{Apart, Stock, fit, middle}
 use Rattle.sv_rule.specs.Views.{Body, Desk, Disk, LaneView, Work}
 use Rattle.sv_rule.specs.declared.parts.Stored.{Stored}
 use Rattle.sv_rule.proofs.Places.{places_same}
-use Rattle.sv_rule.proofs.Resting.{Rest}
+use Rattle.sv_rule.proofs.StepRests.{Rest}
 use Rattle.sv_rule.proofs.RoundTurns.{rounds-work, rounds_of}
-use Rattle.sv_rule.proofs.Stepping.{apart_same, hands_step, holders_by_slot, next, numbers_same, rounds_view, seat_view, seats_step, stock_set, views_move, word_else, word_here}
+use Rattle.sv_rule.proofs.StepLaws.{apart_same, hands_step, holders_by_slot, next, numbers_same, rounds_view, seat_view, seats_step, stock_set, views_move, word_else, word_here}
 use Rattle.sv_rule.proofs.Sums.{at_lt}
 
 -- whoever has the state in hand

@@ -25,7 +25,7 @@ use Rattle.sv_rule.proofs.FitLaws.{text-stays}
 use Rattle.sv_rule.proofs.LaterBooks.{in-more}
 use Rattle.sv_model.proofs.Metas.{covered, one-meta}
 use Rattle.sv_rule.proofs.Statuses.{gone-having, gone-registered, live-having, live-registered, once-same, registered-has, statuses}
-use Rattle.sv_rule.proofs.Stepping.{view_le}
+use Rattle.sv_rule.proofs.StepLaws.{view_le}
 use Rattle.sv_rule.proofs.Sums.{same_one}
 
 pub some-and-map : {A : Type 0} (o : Option A) (P Q : A → Type 0) → ((x : A) → P x → Q x) → IsSomeAnd o P

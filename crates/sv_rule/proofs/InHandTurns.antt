@@ -28,7 +28,7 @@ use Rattle.sv_rule.proofs.Basics.{append_none, each_other, each_set, get_none, t
 use Rattle.sv_rule.proofs.FitLaws.{fits-after}
 use Rattle.sv_rule.proofs.LaterBooks.{in-more}
 use Rattle.sv_rule.proofs.Statuses.{gone-registered}
-use Rattle.sv_rule.proofs.Stepping.{view_le, view_same}
+use Rattle.sv_rule.proofs.StepLaws.{view_le, view_same}
 use Rattle.sv_rule.proofs.Sums.{cond-else, cond-is, same_one, terms_le, total-set, total_none}
 use Rattle.sv_rule.proofs.OwnTurnLaws.{job_most, no_grabs, other_lanes, push_or, there-stays}
 

@@ -10,7 +10,7 @@ use Rattle.sv_rule.specs.Tasks.{has_db}
 use Rattle.sv_rule.specs.Views.{Desk, LaneView, Work}
 use Rattle.sv_rule.specs.declared.parts.Stored.{Stored}
 use Rattle.sv_rule.proofs.Basics.{at_desk, each_other, each_set, has_one}
-use Rattle.sv_rule.proofs.Stepping.{view_le, view_same}
+use Rattle.sv_rule.proofs.StepLaws.{view_le, view_same}
 use Rattle.sv_rule.proofs.Sums.{terms_le, total-set}
 
 module _ {A : Type 0} where

@@ -20,7 +20,7 @@ use Rattle.sv_rule.proofs.Basics.{each_set, get-past}
 use Rattle.sv_rule.proofs.CurrentLaws.{HasTop, current_big, get_lt, has-top, has_current_le, has_current_one, pack_le, some-at}
 use Rattle.sv_rule.proofs.NumberTurns.{opens-long, opens-others}
 use Rattle.sv_rule.proofs.NumberWorks.{new-is-last}
-use Rattle.sv_rule.proofs.Stepping.{rounds_view}
+use Rattle.sv_rule.proofs.StepLaws.{rounds_view}
 use Rattle.sv_rule.proofs.Sums.{below-put, below-same, total-set}
 
 -- ---- the bound

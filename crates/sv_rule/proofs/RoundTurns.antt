@@ -23,7 +23,7 @@ use Rattle.sv_rule.proofs.Basics.{each_set}
 use Rattle.sv_rule.proofs.CurrentLaws.{current_marks, one_family, pack_le, pack_serial, serial_le}
 use Rattle.sv_rule.proofs.LaterBooks.{pack-after}
 use Rattle.sv_rule.proofs.NumberTurns.{opens-back}
-use Rattle.sv_rule.proofs.Stepping.{rounds_view}
+use Rattle.sv_rule.proofs.StepLaws.{rounds_view}
 use Rattle.sv_rule.proofs.Sums.{same-self, total-set}
 
 sets_except : (f : ℕ) (w : Work) → 0 < sets_on f w → 0 < excepts f w

@@ -26,7 +26,7 @@ use Rattle.sv_rule.specs.declared.parts.Stored.{Stored}
 use Rattle.sv_rule.proofs.Assembly.{low_id}
 use Rattle.sv_rule.proofs.Basics.{true_not}
 use Rattle.sv_rule.proofs.CurrentLaws.{current_big, get_lt, one_pack, some-at}
-use Rattle.sv_rule.proofs.Stepping.{view_le}
+use Rattle.sv_rule.proofs.StepLaws.{view_le}
 use Rattle.sv_rule.proofs.Sums.{cond-is, term_le, terms_le}
 
 is_alive : LaneView → ℕ

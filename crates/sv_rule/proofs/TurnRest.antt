@@ -38,8 +38,8 @@ use Rattle.sv_rule.proofs.FileTurns.{files-turn, told-map}
 use Rattle.sv_rule.proofs.FitLaws.{body-after, fits-after}
 use Rattle.sv_rule.proofs.InHandTurns.{ended-turn, removed-turn, work-turns}
 use Rattle.sv_rule.proofs.LockLaws.{lock-else}
-use Rattle.sv_rule.proofs.Resting.{Rest, held-by, says-books, says-step}
-use Rattle.sv_rule.proofs.Stepping.{next, view_le, view_same, word_else}
+use Rattle.sv_rule.proofs.StepRests.{Rest, held-by, says-books, says-step}
+use Rattle.sv_rule.proofs.StepLaws.{next, view_le, view_same, word_else}
 use Rattle.sv_rule.proofs.Sums.{same_one, total-append, total-set}
 
 -- what a lane knows, in later books in which it has another task and more bodies

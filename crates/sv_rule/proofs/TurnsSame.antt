@@ -17,7 +17,7 @@ use Rattle.sv_model.specs.Tasks.{grabs, has_job, has_output, marks_of, output_co
 use Rattle.sv_model.specs.Turns.{IsAccounted, Stands, Turns}
 use Rattle.sv_rule.specs.Views.{Disk, LaneView, Start, Work}
 use Rattle.sv_rule.proofs.Basics.{append_none, get_none}
-use Rattle.sv_rule.proofs.Stepping.{view_le}
+use Rattle.sv_rule.proofs.StepLaws.{view_le}
 use Rattle.sv_rule.proofs.Sums.{cond-else, cond-is, same_one, terms_le, total-one}
 
 pub turns-same : (b : Books) (work : Work) (start : Start) (disk : Disk) (number : ℕ → ℕ) (vs : List LaneView)

@@ -28,7 +28,7 @@ use Rattle.sv_rule.proofs.FitLaws.{body-after}
 use Rattle.sv_rule.proofs.InHandTurns.{work-turns}
 use Rattle.sv_rule_locks.proofs.LockGoes.{kept-by-other-lock}
 use Rattle.sv_rule.proofs.LockLaws.{lock-else}
-use Rattle.sv_rule.proofs.Stepping.{next, rounds_view, view_same, word_else, word_here}
+use Rattle.sv_rule.proofs.StepLaws.{next, rounds_view, view_same, word_else, word_here}
 
 module _ {S D C B : Type 0} (books : S → Books) (disk : D → Disk) (cell : C → Option Cell) (body : B → Body) where
   abbrev pub Cells : Books → List LaneView → ℕ → Stored S D C B → Type 0

@@ -34,7 +34,7 @@ use Rattle.sv_rule.proofs.DbLock.{db-desk, owners-desk}
 use Rattle.sv_rule.proofs.FitLaws.{fits-after}
 use Rattle.sv_rule.proofs.InHandTurns.{ended-turn, removed-turn}
 use Rattle.sv_rule.proofs.LockLaws.{lock-gave}
-use Rattle.sv_rule.proofs.Resting.{says-books, says-step}
+use Rattle.sv_rule.proofs.StepRests.{says-books, says-step}
 use Rattle.sv_rule.proofs.Sums.{same-else, same_one, terms_le}
 
 own_lanes : (l : ℕ) (more : List Write) → Every (λ w. w.lane ≡ l) more → by_lane l more ≡ more

@@ -25,7 +25,7 @@ use Rattle.sv_rule_locks.proofs.CellReads.{cut_le, raised_le, reads-fit}
 use Rattle.sv_rule.proofs.DbLock.{db-same, owners-same}
 use Rattle.sv_rule.proofs.LockLaws.{lock-gave, lock-took}
 use Rattle.sv_rule.proofs.RefLaws.{ref-live}
-use Rattle.sv_rule.proofs.Resting.{says-step}
+use Rattle.sv_rule.proofs.StepRests.{says-step}
 use Rattle.sv_rule.proofs.Sums.{same-else, same_one, term_le, terms_le}
 use Rattle.sv_rule.proofs.TurnsSame.{stands-same, turns-same}
 

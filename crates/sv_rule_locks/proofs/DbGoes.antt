@@ -34,10 +34,10 @@ use Rattle.sv_rule.proofs.InHandTurns.{work-turns}
 use Rattle.sv_rule.proofs.LockLaws.{lock-else}
 use Rattle.sv_rule.proofs.NumberTurns.{current-stands, numbers-stands}
 use Rattle.sv_rule.proofs.Places.{places_same}
-use Rattle.sv_rule.proofs.Resting.{held-by, says-books, says-step}
+use Rattle.sv_rule.proofs.StepRests.{held-by, says-books, says-step}
 use Rattle.sv_rule.proofs.RoundTurns.{loaded-turn, rounds-on}
 use Rattle.sv_rule.proofs.RoundRises.{has-current-same}
-use Rattle.sv_rule.proofs.Stepping.{fresh_stay, fresh_view, holders_by_view, next, numbers_same, rights_stay, rounds_view, view_same, views_move}
+use Rattle.sv_rule.proofs.StepLaws.{fresh_stay, fresh_view, holders_by_view, next, numbers_same, rights_stay, rounds_view, view_same, views_move}
 use Rattle.sv_rule.proofs.TurnRest.{journal-stands}
 
 module _ {S D C B : Type 0} (books : S → Books) (disk : D → Disk) (cell : C → Option Cell) (body : B → Body)

@@ -34,7 +34,7 @@ use Rattle.sv_rule.proofs.FileTurns.{absent-gone, gone-absent}
 use Rattle.sv_rule.proofs.LaterBooks.{get-map}
 use Rattle.sv_rule.proofs.RefLaws.{body-big, body-live, names-live}
 use Rattle.sv_rule.proofs.Statuses.{live-having, registered-has, statuses}
-use Rattle.sv_rule.proofs.Stepping.{view_le}
+use Rattle.sv_rule.proofs.StepLaws.{view_le}
 use Rattle.sv_rule.proofs.Sums.{same_one, terms_le}
 
 module _ (b : Books) (work : Work) (start : Start) (disk : Disk) (number : ℕ → ℕ) (vs : List LaneView) (id : ℕ)

@@ -37,8 +37,8 @@ use Rattle.sv_rule.proofs.InHandTurns.{work-turns}
 use Rattle.sv_rule_locks.proofs.LockGoes.{kept-by-other-lock}
 use Rattle.sv_rule.proofs.LockLaws.{alone, lock-gave, lock-took}
 use Rattle.sv_rule.proofs.RefLaws.{ref-live}
-use Rattle.sv_rule.proofs.Resting.{held-by, says-step}
-use Rattle.sv_rule.proofs.Stepping.{next, rounds_view, view_same, word_else, word_here}
+use Rattle.sv_rule.proofs.StepRests.{held-by, says-step}
+use Rattle.sv_rule.proofs.StepLaws.{next, rounds_view, view_same, word_else, word_here}
 use Rattle.sv_rule.proofs.Sums.{total-set}
 use Rattle.sv_rule.proofs.TurnsSame.{stands-same, turns-same}
 

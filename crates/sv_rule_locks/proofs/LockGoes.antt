@@ -31,7 +31,7 @@ use Rattle.sv_rule.proofs.NumberTurns.{current-stands, numbers-stands}
 use Rattle.sv_rule.proofs.Places.{places_same}
 use Rattle.sv_rule.proofs.RoundTurns.{loaded-turn, rounds-on}
 use Rattle.sv_rule.proofs.RoundRises.{has-current-same}
-use Rattle.sv_rule.proofs.Stepping.{apart_same, hands_step, holders_by_view, next, numbers_same, rights_stay, rounds_view, seat_view, seats_step, views_move, word_else}
+use Rattle.sv_rule.proofs.StepLaws.{apart_same, hands_step, holders_by_view, next, numbers_same, rights_stay, rounds_view, seat_view, seats_step, views_move, word_else}
 use Rattle.sv_rule.proofs.Sums.{term_le, total-set}
 
 module _ {S D C B : Type 0} (books : S → Books) (disk : D → Disk) (cell : C → Option Cell) (body : B → Body)

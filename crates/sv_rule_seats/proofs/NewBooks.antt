@@ -7,7 +7,7 @@ use Rattle.sv_model.specs.Registers.{entry}
 use Rattle.sv_rule.specs.Begins.{FirstBooks}
 use Rattle.sv_model.specs.Tasks.{handle}
 use Rattle.sv_rule.specs.Views.{Disk}
-use Rattle.sv_rule.proofs.Stepping.{next}
+use Rattle.sv_rule.proofs.StepLaws.{next}
 
 -- ---- the books of a database that is new
 

@@ -27,7 +27,7 @@ use Rattle.sv_rule.proofs.CellLaws.{says-more}
 use Rattle.sv_rule.proofs.FileTurns.{told-map}
 use Rattle.sv_rule.proofs.Places.{places_same}
 use Rattle.sv_rule_seats.proofs.SeatWork.{Moves, seated}
-use Rattle.sv_rule.proofs.Stepping.{right_same}
+use Rattle.sv_rule.proofs.StepLaws.{right_same}
 use Rattle.sv_model.proofs.Basics.{none_some}
 
 -- a lane that has nothing is fresh

@@ -16,7 +16,7 @@ use Rattle.sv_rule.specs.Tasks.{lanes}
 use Rattle.sv_rule.specs.UnderWay.{Apart, Stock, fit, middle}
 use Rattle.sv_rule.specs.Views.{LaneView, SlotView, Work, begun, idle, opens, sweeping}
 use Rattle.sv_rule.proofs.NumberWorks.{numbers-work}
-use Rattle.sv_rule.proofs.Stepping.{right_same}
+use Rattle.sv_rule.proofs.StepLaws.{right_same}
 use Rattle.sv_rule.proofs.Sums.{at-past, same-self, total-without, total-without_else}
 
 -- what is said of a work

@@ -23,8 +23,8 @@ use Rattle.sv_rule.proofs.Assembly.{kept-by-word, low_id}
 use Rattle.sv_rule.proofs.Basics.{each_set, true_not}
 use Rattle.sv_rule.proofs.DbLock.{db-same, owners-same}
 use Rattle.sv_rule.proofs.Places.{places_same}
-use Rattle.sv_rule.proofs.Resting.{hand_view, rest-same}
-use Rattle.sv_rule.proofs.Stepping.{apart_same, fresh_same, next, numbers_same, right_same, seat_view, spots_set, views_move, word_else, word_here}
+use Rattle.sv_rule.proofs.StepRests.{hand_view, rest-same}
+use Rattle.sv_rule.proofs.StepLaws.{apart_same, fresh_same, next, numbers_same, right_same, seat_view, spots_set, views_move, word_else, word_here}
 use Rattle.sv_rule.proofs.Sums.{at-is, below-same}
 
 -- a load of the word i, which changes nothing but the view of its lane

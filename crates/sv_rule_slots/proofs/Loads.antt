@@ -26,7 +26,7 @@ use Rattle.sv_rule_slots.proofs.LoadSteps.{L, kept-by-load}
 use Rattle.sv_rule_slots.proofs.References.{adds}
 use Rattle.sv_rule.proofs.RoundTurns.{loaded-now, loaded-work, rounds-set}
 use Rattle.sv_rule.proofs.Shows.{handle-shows, shown-rises}
-use Rattle.sv_rule.proofs.Stepping.{right_same}
+use Rattle.sv_rule.proofs.StepLaws.{right_same}
 use Rattle.sv_rule.proofs.Sums.{at-put_else, at-put_same, length-put, length-without, same-else, total-put, total-without}
 
 module _ {S D C B : Type 0} (books : S → Books) (disk : D → Disk) (cell : C → Option Cell) (body : B → Body) where

@@ -29,9 +29,9 @@ use Rattle.sv_rule.proofs.FreshTurns.{fresh-number}
 use Rattle.sv_rule.proofs.NumberWorks.{not-new, now-renumbered, past-renumbered, renumbered}
 use Rattle.sv_rule_slots.proofs.OwnSlots.{reach, reach_len}
 use Rattle.sv_rule.proofs.Places.{places_same}
-use Rattle.sv_rule.proofs.Resting.{accounts-bodies, hand_view, rest-stays}
+use Rattle.sv_rule.proofs.StepRests.{accounts-bodies, hand_view, rest-stays}
 use Rattle.sv_rule.proofs.RoundRises.{rounds-moved}
-use Rattle.sv_rule.proofs.Stepping.{right_same, slots_stay, spots_keep, views_move, word_here}
+use Rattle.sv_rule.proofs.StepLaws.{right_same, slots_stay, spots_keep, views_move, word_here}
 use Rattle.sv_rule.proofs.Sums.{at-put_else, at-put_same, below-put, length-without, same-else, same-self, total-without, total-without_else}
 
 -- what holds of nobody and of each view holds of what lane l knows

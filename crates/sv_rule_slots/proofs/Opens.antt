@@ -43,7 +43,7 @@ use Rattle.sv_rule.proofs.NumberTurns.{numbers-opens, old-not-new, opens-others}
 use Rattle.sv_rule.proofs.Places.{IsOpened, places_open}
 use Rattle.sv_rule.proofs.RoundTurns.{loaded-opens, rounds-on}
 use Rattle.sv_rule.proofs.RoundRises.{bound-opens}
-use Rattle.sv_rule.proofs.Stepping.{fresh_stay, holders_by_view, numbers_same, rights_stay, view_le, views_move, word_here}
+use Rattle.sv_rule.proofs.StepLaws.{fresh_stay, holders_by_view, numbers_same, rights_stay, view_le, views_move, word_here}
 use Rattle.sv_rule.proofs.Sums.{cond-is, same-else, same-self}
 use Rattle.sv_rule.proofs.TurnRest.{journal-stands, mine-turns, rest-turns, says-opens, says-same}
 

@@ -29,8 +29,8 @@ use Rattle.sv_rule.proofs.Assembly.{M, kept-by-slot, low_id, m_else, m_here, m_n
 use Rattle.sv_rule.proofs.Basics.{each_set, true_not}
 use Rattle.sv_rule.proofs.DbLock.{db-same, owners-same}
 use Rattle.sv_rule.proofs.FreshTurns.{stock-more}
-use Rattle.sv_rule.proofs.Resting.{hand_view, rest-stays, silent-stands}
-use Rattle.sv_rule.proofs.Stepping.{right_same, rounds_view, seat_view, spots_set}
+use Rattle.sv_rule.proofs.StepRests.{hand_view, rest-stays, silent-stands}
+use Rattle.sv_rule.proofs.StepLaws.{right_same, rounds_view, seat_view, spots_set}
 use Rattle.sv_rule.proofs.Sums.{at-is, at-put_else, at-put_same, length-put, marked, total-put}
 
 not_away : {x : SlotView} {p n : ℕ} → x ≡ away → x ≡ borrow p n → ⊥

@@ -22,9 +22,9 @@ use Rattle.sv_rule.specs.UnderWay.{Apart, Stock, excepts}
 use Rattle.sv_rule.specs.Views.{Body, Desk, Disk, LaneView, SlotView, Work, begun, idle, opens, sweeping}
 use Rattle.sv_rule.specs.declared.parts.Stored.{Stored}
 use Rattle.sv_rule.proofs.Assembly.{Desks, kept-by-word, low_id}
-use Rattle.sv_rule.proofs.Resting.{hand_view, rest-same}
+use Rattle.sv_rule.proofs.StepRests.{hand_view, rest-same}
 use Rattle.sv_rule.proofs.RoundTurns.{rounds-work, rounds_of}
-use Rattle.sv_rule.proofs.Stepping.{apart_same, fresh_same, fresh_stay, fresh_view, next, numbers_same, rights_stay, rounds_view, seat_view, word_else}
+use Rattle.sv_rule.proofs.StepLaws.{apart_same, fresh_same, fresh_stay, fresh_view, next, numbers_same, rights_stay, rounds_view, seat_view, word_else}
 
 pub lowered_rounds : (p : ℕ) (work : Work) → rounds_of (lowered p work) ≡ rounds_of work
 lowered_rounds p idle = refl

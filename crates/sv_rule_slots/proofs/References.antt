@@ -24,9 +24,9 @@ use Rattle.sv_rule.proofs.DbLock.{db-desk, db-same, owners-desk, owners-same}
 use Rattle.sv_rule_slots.proofs.Drops.{WorkOk, lowers_ok}
 use Rattle.sv_rule.proofs.FreshTurns.{stock-more}
 use Rattle.sv_rule.proofs.Places.{held_place, places_at}
-use Rattle.sv_rule.proofs.Resting.{accounts-bodies}
+use Rattle.sv_rule.proofs.StepRests.{accounts-bodies}
 use Rattle.sv_rule.proofs.RoundTurns.{rounds_of}
-use Rattle.sv_rule.proofs.Stepping.{holders_by_view, holders_few, views_move, word_else, word_here}
+use Rattle.sv_rule.proofs.StepLaws.{holders_by_view, holders_few, views_move, word_else, word_here}
 use Rattle.sv_rule.proofs.Sums.{below-term_le, length-without, same-else, same-self, term_le, total-without}
 use Rattle.sv_rule_slots.proofs.ReferenceSteps.{R, kept-by-reference, lowered-excepts, lowered_rounds, taken_more}
 

@@ -41,9 +41,9 @@ use Rattle.sv_rule.proofs.FreshTurns.{fresh-turn}
 use Rattle.sv_rule.proofs.NumberTurns.{ended-current, ended-others, numbers-ended}
 use Rattle.sv_rule.proofs.NumberWorks.{numbers-work}
 use Rattle.sv_rule.proofs.Places.{places_same}
-use Rattle.sv_rule.proofs.Resting.{hand_view, rest-same}
+use Rattle.sv_rule.proofs.StepRests.{hand_view, rest-same}
 use Rattle.sv_rule.proofs.RoundRises.{rounds-rise}
-use Rattle.sv_rule.proofs.Stepping.{fresh_same, fresh_stay, holders_by_view, numbers_same, rights_stay, views_move, word_here}
+use Rattle.sv_rule.proofs.StepLaws.{fresh_same, fresh_stay, holders_by_view, numbers_same, rights_stay, views_move, word_here}
 use Rattle.sv_rule.proofs.Sums.{below-put}
 use Rattle.sv_rule.proofs.TurnRest.{journal-stands, mine-turns, rest-turns, says-same}
 

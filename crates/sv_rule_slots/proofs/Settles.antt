@@ -34,7 +34,7 @@ use Rattle.sv_rule.proofs.NumberTurns.{gone-back, gone-current, live-gone, live-
 use Rattle.sv_rule.proofs.Places.{places_close}
 use Rattle.sv_rule.proofs.RoundTurns.{loaded-turn, rounds-on}
 use Rattle.sv_rule.proofs.RoundRises.{has-current-same}
-use Rattle.sv_rule.proofs.Stepping.{apart_same, fresh_stay, holders_by_view, numbers_same, rights_stay, views_move, word_here}
+use Rattle.sv_rule.proofs.StepLaws.{apart_same, fresh_stay, holders_by_view, numbers_same, rights_stay, views_move, word_here}
 use Rattle.sv_rule.proofs.Sums.{same-else, same-self, term_le, total-one, total-without}
 use Rattle.sv_rule.proofs.TurnRest.{journal-stands, mine-turns, rest-turns, says-closes}
 use Rattle.sv_rule.proofs.LockCounts.{fills_none}

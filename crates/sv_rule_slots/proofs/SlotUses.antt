@@ -29,7 +29,7 @@ use Rattle.sv_rule.proofs.Assembly.{M}
 use Rattle.sv_rule.proofs.Basics.{by_desk, every_cons, every_none}
 use Rattle.sv_rule_slots.proofs.OwnSlots.{fit_idle, kept_by_own, lane_lt, own_fresh, own_right}
 use Rattle.sv_rule.proofs.RefLaws.{held-live, shown-of}
-use Rattle.sv_rule.proofs.Resting.{accounts-bodies}
+use Rattle.sv_rule.proofs.StepRests.{accounts-bodies}
 use Rattle.sv_rule.proofs.Sums.{at-put_else, at-put_same, at_lt, below-term_le, marked, same-self}
 
 -- the view after the use, which may know more bodies

@@ -30,9 +30,9 @@ use Rattle.sv_rule.proofs.DbLock.{db-desk, owners-desk}
 use Rattle.sv_rule_slots.proofs.Drops.{fit_here, sweep_ends}
 use Rattle.sv_rule_slots.proofs.LoadSteps.{L}
 use Rattle.sv_rule.proofs.NumberWorks.{numbers-work}
-use Rattle.sv_rule.proofs.Resting.{hand_view, rest-stays, silent-stands}
+use Rattle.sv_rule.proofs.StepRests.{hand_view, rest-stays, silent-stands}
 use Rattle.sv_rule.proofs.RoundTurns.{rounds_of}
-use Rattle.sv_rule.proofs.Stepping.{fresh_stay, right_same, spots_keep}
+use Rattle.sv_rule.proofs.StepLaws.{fresh_stay, right_same, spots_keep}
 use Rattle.sv_rule.proofs.Sums.{same-else}
 
 -- a sweep that passed one lane more ends, where it has no old pack and this was the last lane

@@ -22,7 +22,7 @@ use Rattle.sv_rule.specs.Views.{Bodied, Body, Desk, Disk, LaneView, Work, sweepi
 use Rattle.sv_rule.specs.declared.parts.Stored.{Stored}
 use Rattle.sv_rule.specs.declared.parts.Stored.TheVariants as is
 use Rattle.sv_rule.proofs.Basics.{every_cons, every_none}
-use Rattle.sv_rule.proofs.Resting.{accounts-bodies}
+use Rattle.sv_rule.proofs.StepRests.{accounts-bodies}
 use Rattle.sv_rule.proofs.RoundTurns.{rounds_of}
 use Rattle.sv_rule.proofs.Sums.{at_lt, marked, same-self}
 use Rattle.sv_rule_slots.proofs.SweepSteps.{beyond_case, beyond_excepts, fit-pass, fit_now, in_row, kept-by-sweep, other_middle, right_passed, swept_view}

@@ -15,7 +15,7 @@ use Rattle.sv_model.specs.Books.{Books}
 use Rattle.sv_plain.specs.Follows.{Follows}
 use Rattle.sv_model.specs.Reads.{IsWrite, Serves, IsOutput}
 use Rattle.sv_model.specs.Refusals.{first_due, key_refusal, value_refusal}
-use Rattle.sv_model.proofs.Refusing.{none_due}
+use Rattle.sv_model.proofs.RefusalLaws.{none_due}
 use Rattle.sv_model.proofs.Registers.{entry-new}
 use Rattle.sv_model.specs.Files.{Files}
 use Rattle.sv_script.specs.declared.Command.TheVariants as command

@@ -53,7 +53,7 @@ fn family(
     dropped: bool,
     numbers: &[u64],
 ) -> Result<FamilyLine, Fail> {
-    let name = Name::new(alloc, name)?.ok_or("no name")?;
+    let name = Name::new(name).ok_or("no name")?;
     Ok(FamilyLine {
         id: FamilyId(id),
         name,

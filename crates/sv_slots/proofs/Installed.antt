@@ -15,7 +15,8 @@ use Rattle.sv_rule.specs.RoundPlays.{MayEndCurrent, MaySwap, Numbered, ended_cur
 use Rattle.sv_rule.specs.SweepPlays.{Sweeps}
 use Rattle.sv_rule.specs.Tasks.{some_count}
 use Rattle.sv_rule.specs.Views.{Bodied, Body, Desk, LaneView, begun, opens}
-use Rattle.sv_slots.proofs.CallCarrying.{beside, seated}
+use Rattle.sv_slots.proofs.CarriedByCalls.{beside, seated}
+use Rattle.sv_slots.proofs.ToldCounts.{told_of}
 use Rattle.sv_slots.specs.Installs.{IsSwept, installed, retired}
 
 module _ {A : Type 0} (f p : ℕ) (x : Bodied) (b : Books) (u : Task) (olds : List Bodied) (m m₁ m₂ : Me A LaneView)
@@ -100,26 +101,26 @@ module _ {A : Type 0} (f : ℕ) (b : Books) (u : Task) (olds : List Bodied) (m m
 -- the lane has the DB lock before and after, and nothing else of what it carries changed
 abbrev pub Works : LaneView → LaneView → Type 0
 Works old new = (seated new ≡ seated old) × (some_count new.locks.db ≡ some_count old.locks.db)
-    × (beside new ≡ beside old)
+    × (beside new ≡ beside old) × (told_of new ≡ told_of old)
 
 pub installed_works : (f r : ℕ) (x : Bodied) (b : Books) (u : Task) (olds : List Bodied) (v w : LaneView) (d : Desk)
     → v.locks.db ≡ Some d → w ≡ installed f x b u olds r v → Works v w
 installed_works f r x b u olds v w d has e =
-    (ap seated e, ap (λ z. some_count z.locks.db) e ∙ sym (ap some_count has), ap beside e)
+    (ap seated e, ap (λ z. some_count z.locks.db) e ∙ sym (ap some_count has), ap beside e, ap told_of e)
 
 pub retired_works : (f r : ℕ) (b : Books) (u : Task) (olds : List Bodied) (v w : LaneView) (d : Desk)
     → v.locks.db ≡ Some d → w ≡ retired f b u olds r v → Works v w
 retired_works f r b u olds v w d has e =
-    (ap seated e, ap (λ z. some_count z.locks.db) e ∙ sym (ap some_count has), ap beside e)
+    (ap seated e, ap (λ z. some_count z.locks.db) e ∙ sym (ap some_count has), ap beside e, ap told_of e)
 
 pub settled_works : (p : ℕ) (b : Books) (u : Task) (cells : List ℕ) (v w : LaneView) (d : Desk)
     → v.locks.db ≡ Some d → w ≡ settled p b u cells (desk_of v) v → Works v w
 settled_works p b u cells v w d has e =
-    (ap seated e, ap (λ z. some_count z.locks.db) e ∙ sym (ap some_count has), ap beside e)
+    (ap seated e, ap (λ z. some_count z.locks.db) e ∙ sym (ap some_count has), ap beside e, ap told_of e)
 
 pub swept_works : {B : Type 0} (body : B → Body) (f l : ℕ) (o : Option (SvRef B)) (v w : LaneView)
     → Sweeps v f l Rattle.std.proofs.Common.false → IsSwept body f l o v w → Works v w
 swept_works body f l None v w at e =
-    (ap seated e, ap (λ z. some_count z.locks.db) e ∙ sym (ap some_count at.has), ap beside e)
+    (ap seated e, ap (λ z. some_count z.locks.db) e ∙ sym (ap some_count at.has), ap beside e, ap told_of e)
 swept_works body f l (Some sv) v w at e =
-    (ap seated e.2, ap (λ z. some_count z.locks.db) e.2 ∙ sym (ap some_count at.has), ap beside e.2)
+    (ap seated e.2, ap (λ z. some_count z.locks.db) e.2 ∙ sym (ap some_count at.has), ap beside e.2, ap told_of e.2)

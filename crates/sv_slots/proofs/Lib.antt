@@ -4,9 +4,9 @@ pub mod BorrowSteps
 pub mod GiveBackSteps
 pub mod LookSteps
 pub mod Turns
-pub mod Carrying
-pub mod CallCarrying
-pub mod LockCarrying
+pub mod CarriedBySteps
+pub mod CarriedByCalls
+pub mod CarriedByLocks
 pub mod InstallLaws
 pub mod Installed
 pub mod Rows
@@ -14,3 +14,4 @@ pub mod Begins
 pub mod Ends
 pub mod Unchanged
 pub mod OpenedSeats
+pub mod ToldCounts

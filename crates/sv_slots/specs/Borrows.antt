@@ -1,5 +1,5 @@
 -- What the calls on a lane's own slots make of its view, and what they answer.
-use Rattle.std.specs.Prelude.{◌≡◌, ◌≢◌, ◌+◌, ◌≤◌, ◌<◌, ◌^◌, ◌∷◌, [], ℕ, Option, Some, None, false}
+use Rattle.std.specs.Prelude.{◌≡◌, ◌≢◌, ◌+◌, ◌≤◌, ◌<◌, ◌^◌, ◌∷◌, [], ℕ, Option, Some, None, Bool, true, false}
 use Rattle.sv_model.specs.declared.sv_refs.SvRef.{SvRef}
 use Rattle.sv_model.specs.Lists.{In, times, at}
 use Rattle.sv_rule.specs.ReferencePlays.{learnt}
@@ -82,6 +82,10 @@ swept_back f p v = handed p (counted 0 0 1 (slotted f away 0 2 v))
 abbrev pub IsBack : {P S D C B : Type 0} → (B → Body) → ℕ → SvRef B → Back P S D C B → LaneView → LaneView → Type 0
 IsBack body f sv Kept old new = new ≡ given_back f sv.pack old
 IsBack body f sv (Swept back) old new = (bodied body back ≡ bodied body sv) × (new ≡ swept_back f sv.pack old)
+
+abbrev pub was_swept : {P S D C B : Type 0} → Back P S D C B → Bool
+was_swept Kept = false
+was_swept (Swept back) = true
 
 -- ---- rest
 

@@ -6,3 +6,4 @@ pub mod Installs
 pub mod Openings
 pub mod Closings
 pub mod Known
+pub mod Counters

@@ -44,6 +44,16 @@ impl<P: Parts> Borrow<P> {
     }
 }
 
+impl<P: Parts> Back<P> {
+    ghost use Rattle.sv_slots.specs.Borrows.{was_swept};
+
+    fn is_swept(&self) -> bool
+        ensures { result ≡ was_swept self.now }
+    {
+        matches!(self, Back::Swept(_))
+    }
+}
+
 impl<P: Parts> Core<P> {
     ghost use Rattle.sv_slots.specs.Borrows.{IsBack, IsHit, IsMiss, IsRested, borrowed};
 
@@ -60,10 +70,14 @@ impl<P: Parts> Core<P> {
         let lane = seat.lane;
         match self.borrow_at(&mut seat.seat, lane, family.0) {
             Ok(sv) => {
+                seat.counts.hit();
                 seat.out.insert(0, slot_home_of(lane, family.0) as u16);
                 Ok(Borrow { family, sv })
             }
-            Err(miss) => Err(miss),
+            Err(miss) => {
+                seat.counts.missed();
+                Err(miss)
+            }
         }
     }
 
@@ -106,6 +120,7 @@ impl<P: Parts> Core<P> {
         let pack = word_of(sv.pack);
         let back = self.give_back_at(&mut seat.seat, lane, family.0, sv, pack);
         seat.out.remove(0);
+        seat.counts.given_back(back.is_swept());
         back
     }
 

@@ -59,6 +59,7 @@ impl<P: Parts> Core<P> {
             lane: _,
             seat,
             out: _,
+            counts: _,
         } = seat;
         let mut closed = table.close_with(seat);
         let Stored::State(state) = take_next(&mut closed, 0) else {

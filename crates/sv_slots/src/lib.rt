@@ -4,6 +4,7 @@
 
 mod borrows;
 mod closings;
+mod counters;
 mod install_steps;
 mod installs;
 mod lock_steps;
@@ -19,6 +20,7 @@ mod steps;
 mod table;
 
 pub use borrows::{Back, Borrow, Miss};
+pub use counters::Counts;
 pub use openings::CoreError;
 pub use picks::{Installing, Settling};
 pub use refs::{Owed, Sub};

@@ -5,6 +5,7 @@ ghost use Rattle.sv_rule.specs.Blanks.{new_view};
 ghost use Rattle.sv_slots.specs.Known.{CameWith, table_of, view_of};
 ghost use Rattle.sv_slots.specs.Openings.{AreOpened, AreOthers, FirstCells, IsFirstWord, StartsWith, first_slots};
 
+use crate::counters::Counts;
 use crate::refs::COUNTS;
 use crate::table::{Core, LaneSeat};
 use arrayvec::ArrayVec;
@@ -194,6 +195,7 @@ impl<P: Parts> Core<P> {
                     lane: 0,
                     seat,
                     out: ArrayVec::new(),
+                    counts: Counts::none(),
                 };
                 let seats = core.seat_lanes(first, lanes, seats);
                 Ok((core, seats))

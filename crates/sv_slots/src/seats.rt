@@ -3,6 +3,7 @@ ghost use Rattle.std.specs.Prelude.{◌≡◌, ◌<◌};
 ghost use Rattle.sv_rule.specs.SeatPlays.{IsIdle, MaySplit, gathered, split_left, split_right};
 ghost use Rattle.sv_slots.specs.Known.{CameWith, IsSameSeat, table_of, view_of};
 
+use crate::counters::Counts;
 use crate::table::{Core, LaneSeat};
 use arrayvec::ArrayVec;
 use sv_rule::{Gather, Parts, SplitLane};
@@ -21,6 +22,7 @@ impl<P: Parts> Core<P> {
             lane,
             seat: other,
             out: ArrayVec::new(),
+            counts: Counts::none(),
         }
     }
 
@@ -35,6 +37,7 @@ impl<P: Parts> Core<P> {
             lane: _,
             seat: other,
             out: _,
+            counts: _,
         } = other;
         self.table.shared.join_seat::<Gather>(&mut seat.seat, other);
     }

@@ -3,7 +3,9 @@ ghost use Rattle.std.specs.Prelude.{◌≡◌, ◌<◌, ◌^◌};
 ghost use Rattle.sv_rule.specs.Table.{cell_word, slot_home, slot_word, spot};
 ghost use Rattle.sv_slots.specs.Seats.{IsLane, IsSized};
 ghost use Rattle.sv_slots.specs.Carried.{Carries};
+ghost use Rattle.sv_slots.specs.Counters.{Tells};
 
+use crate::counters::Counts;
 use arrayvec::ArrayVec;
 use atomic_table::{Seat, Table};
 use std::alloc::Global;
@@ -23,14 +25,17 @@ pub struct Core<P: Parts> {
     ghost sized: { IsSized table.shared.table_id },
 }
 
-/// What a lane steps with. It carries the slots that are out with it, in the order in which the table knows them.
+/// What a lane steps with. It carries the slots that are out with it, in the order in which the table knows them, and
+/// counts what became of its borrows.
 #[derive(Drop)]
 pub struct LaneSeat<P: Parts> {
     pub(crate) lane: u8,
     pub(crate) seat: Seat<StoredOf<P>, View>,
     pub(crate) out: ArrayVec<u16, MAX_CARRIED>,
+    pub(crate) counts: Counts,
     ghost is_lane: { IsLane seat.me.0 lane },
     ghost carried: { Carries seat.me.0 seat.me.1 out.items },
+    ghost tells: { Tells counts seat.me.0 },
 }
 
 /// The word of the slot of a family.

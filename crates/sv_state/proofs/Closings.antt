@@ -17,7 +17,7 @@ use Rattle.sv_model.proofs.Registers.{entry-else, entry-same}
 use Rattle.sv_family.specs.Calls.{IsChanged, with_handle}
 use Rattle.sv_laws.specs.Changes.{current_ended, released, retired}
 use Rattle.sv_laws.specs.Families.{IsCurrentEnded, IsReleased, IsRetired}
-use Rattle.sv_laws.proofs.Growing.{get_within}
+use Rattle.sv_laws.proofs.GrownRegisters.{get_within}
 use Rattle.sv_model.proofs.Entries.{some}
 use Rattle.sv_laws.proofs.Kept.{sound-kept}
 use Rattle.sv_objects.specs.declared.bodies.Body.{Body}

@@ -17,7 +17,7 @@ use Rattle.sv_family.specs.Calls.{IsCreated, new_family}
 use Rattle.sv_laws.specs.Changes.{created}
 use Rattle.sv_laws.specs.Installs.{live_super}
 use Rattle.sv_laws.specs.NewCurrents.{IsFamilyMade}
-use Rattle.sv_laws.proofs.Growing.{get_within}
+use Rattle.sv_laws.proofs.GrownRegisters.{get_within}
 use Rattle.sv_laws.proofs.Kept.{sound-kept}
 use Rattle.sv_objects.specs.declared.bodies.Body.{Body}
 use Rattle.sv_objects.specs.declared.objects.Objects.{Objects}

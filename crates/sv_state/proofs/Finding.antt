@@ -7,7 +7,7 @@ use Rattle.sv_model.specs.declared.sv_refs.SvRef.{SvRef}
 use Rattle.sv_model.specs.Books.{Books}
 use Rattle.sv_model.specs.Families.{IsOwn, IsOwnStanding}
 use Rattle.sv_laws.specs.Installs.{IsOpen}
-use Rattle.sv_laws.proofs.Growing.{get_within}
+use Rattle.sv_laws.proofs.GrownRegisters.{get_within}
 use Rattle.sv_objects.specs.declared.bodies.Body.{Body}
 use Rattle.sv_state.specs.Currents.{HasCurrentAt, OwnHaveCurrents}
 use Rattle.sv_state.specs.Refs.{IsBodyOf, IsState}

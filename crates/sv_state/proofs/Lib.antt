@@ -11,6 +11,12 @@ mod Finishes
 mod Fronts
 mod HeldAgain
 mod LiveNumbers
+mod OpenBooks
+mod OpenLists
+mod OpenRefs
+mod OpenRoom
+mod OpenStates
+mod OpenWrites
 mod OptionSets
 mod OtherCalls
 mod Plannings

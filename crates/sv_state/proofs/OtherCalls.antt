@@ -17,7 +17,7 @@ use Rattle.sv_journal.specs.Calls as journal
 use Rattle.sv_journal.specs.Calls.{snap_refusal}
 use Rattle.sv_laws.specs.Changes.{dropped, opened, snapped, unsnapped}
 use Rattle.sv_laws.proofs.Kept.{sound-kept}
-use Rattle.sv_model.proofs.Refusing.{none_due}
+use Rattle.sv_model.proofs.RefusalLaws.{none_due}
 use Rattle.sv_state.proofs.Calls.{below, not-due, same-books}
 
 -- ---- snapshots

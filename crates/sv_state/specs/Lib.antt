@@ -1,9 +1,11 @@
+pub mod Begun
 pub mod Capturing
 pub mod Changing
 pub mod Currents
 pub mod Finishing
 pub mod Follows
 pub mod Gone
+pub mod Openings
 pub mod Planning
 pub mod Refs
 pub mod Seen

@@ -1,6 +1,7 @@
 //! The state: every register of the store together, lawful after every call.
 #![tactic(auto)]
 
+mod begun;
 mod capturing;
 mod changing;
 mod closing;
@@ -10,6 +11,7 @@ mod installs;
 mod jobs;
 mod live;
 mod merging;
+mod opened;
 mod openings;
 mod planning;
 mod readers;

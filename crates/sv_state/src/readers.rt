@@ -4,6 +4,7 @@ ghost use Rattle.std.specs.Option.{option_map};
 ghost use Rattle.sv_model.specs.declared.records.Top.{Top};
 ghost use Rattle.sv_model.specs.Lists.{total};
 ghost use Rattle.sv_model.specs.Refusals.{RefusesExactly};
+ghost use Rattle.sv_model.specs.Steady.{Sound};
 ghost use Rattle.sv_family.specs.Refused.{find_refusal};
 ghost use Rattle.sv_model.specs.Books.{files_of};
 ghost use Rattle.sv_state.specs.Currents.{HasCurrentAt, StandsAt, kept_of};
@@ -63,6 +64,13 @@ impl State {
         ensures { result ≡ self.now.books.files.next }
     {
         self.objects.files.next()
+    }
+
+    /// The books are sound. Does nothing: it is for a caller that holds the state and nothing else of it.
+    pub fn laws(&self)
+        ensures sound { Sound self.now.books }
+    {
+        let _ = &self.alloc;
     }
 }
 

@@ -20,7 +20,7 @@ use Rattle.sv_laws.specs.Families.{IsDropped, IsOpened}
 use Rattle.sv_laws.specs.Growing.{IsPlaced}
 use Rattle.sv_laws.specs.Installs.{IsOpen, live_super, next_top}
 use Rattle.sv_laws.specs.NewCurrents.{IsFamilyMade, IsOptionSet}
-use Rattle.sv_laws.proofs.Growing.{placed-push, placed-set}
+use Rattle.sv_laws.proofs.GrownRegisters.{placed-push, placed-set}
 use Rattle.sv_model.proofs.Entries.{get_one, some}
 use Rattle.sv_laws.proofs.Handles.{not-retired, not-retired-open}
 use Rattle.sv_laws.proofs.OpenFamilies.{current-top}

@@ -13,7 +13,6 @@ pub const LANES: u8 = 32;
 
 #[derive(Drop)]
 pub struct Bench {
-    alloc: Global,
     state: State,
     waiting: Option<Pack>,
 }
@@ -29,11 +28,8 @@ impl Model for Bench {
     ghost invariant = { λ b. Stands b.state.books b.waiting };
 }
 
-fn named(alloc: Global, bytes: &[u8]) -> Result<Name, Refusal> {
-    match Name::new(alloc, bytes)? {
-        Some(name) => Ok(name),
-        None => Err(Refusal::NoFamily),
-    }
+fn named(bytes: &[u8]) -> Result<Name, Refusal> {
+    Name::new(bytes).ok_or(Refusal::NoFamily)
 }
 
 // Lets the SuperVersion of the reference wait, unless one waits already.
@@ -57,14 +53,13 @@ impl Bench {
         }
         let state = State::new(alloc, FileNumber(next))?;
         Ok(Bench {
-            alloc,
             state,
             waiting: None,
         })
     }
 
     pub fn create(&mut self, lane: u8, name: &[u8]) -> Result<FamilyId, Refusal> {
-        let name = named(self.alloc, name)?;
+        let name = named(name)?;
         if lane >= LANES {
             return Err(Refusal::NoHold);
         }
@@ -73,7 +68,7 @@ impl Bench {
     }
 
     pub fn find(&self, lane: u8, name: &[u8]) -> Result<FamilyId, Refusal> {
-        let name = named(self.alloc, name)?;
+        let name = named(name)?;
         if lane >= LANES {
             return Err(Refusal::NoHold);
         }
@@ -81,7 +76,7 @@ impl Bench {
     }
 
     pub fn open(&mut self, lane: u8, name: &[u8]) -> Result<FamilyId, Refusal> {
-        let name = named(self.alloc, name)?;
+        let name = named(name)?;
         if lane >= LANES {
             return Err(Refusal::NoHold);
         }
@@ -89,7 +84,7 @@ impl Bench {
     }
 
     pub fn drop(&mut self, lane: u8, name: &[u8]) -> Result<FamilyId, Refusal> {
-        let name = named(self.alloc, name)?;
+        let name = named(name)?;
         if lane >= LANES {
             return Err(Refusal::NoHold);
         }
@@ -104,7 +99,7 @@ impl Bench {
         option: OptionName,
         value: u64,
     ) -> Result<Pack, Refusal> {
-        let name = named(self.alloc, name)?;
+        let name = named(name)?;
         if lane >= LANES {
             return Err(Refusal::NoHold);
         }

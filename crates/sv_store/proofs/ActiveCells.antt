@@ -1,29 +1,25 @@
 -- The active memtable in its cell, and what a write and a switch make of it.
-use Rattle.std.proofs.Common.{◌≡◌, ◌<◌, ◌+◌, ◌++◌, ◌∷◌, ℕ, suc, true, List, [], length, map, set, Option, Some, None, refl, sym, ap, ◌∙◌, subst, arith}
+use Rattle.std.proofs.Common.{◌≡◌, ◌<◌, ◌+◌, ◌++◌, ◌∷◌, ℕ, suc, true, List, [], length, set, Option, Some, None, refl, sym, ap, ◌∙◌, subst}
 use Rattle.std.specs.Prelude.{slice_get}
-use Rattle.sv_model.specs.declared.records.Descriptor.{Descriptor}
 use Rattle.sv_model.specs.declared.records.Memtable.{Memtable}
 use Rattle.sv_model.specs.declared.records.SuperVersion.{SuperVersion}
-use Rattle.sv_model.specs.declared.sv_refs.SvRef.{SvRef}
 use Rattle.sv_model.specs.declared.writes.Row.{Row}
 use Rattle.sv_model.specs.declared.writes.Write.{Write}
 use Rattle.sv_model.specs.Books.{Books}
 use Rattle.sv_model.specs.Cells.{Cell}
-use Rattle.sv_model.specs.Journal.{borne_by, rows_of}
+use Rattle.sv_model.specs.Journal.{rows_of}
 use Rattle.sv_model.specs.Registers.{entry}
 use Rattle.sv_model.specs.Steady.{Sound}
 use Rattle.sv_model.proofs.Registers.{entry-new}
 use Rattle.sv_laws.specs.Growing.{IsPlaced}
-use Rattle.sv_laws.specs.Installs.{IsOpen, live_super, next_top}
+use Rattle.sv_laws.specs.Installs.{IsOpen, next_top}
 use Rattle.sv_laws.specs.NewCurrents.{IsSwitched}
 use Rattle.sv_laws.specs.Writes.{IsWritten}
-use Rattle.sv_laws.proofs.Growing.{placed-set}
+use Rattle.sv_laws.proofs.GrownRegisters.{placed-set}
 use Rattle.sv_model.proofs.Entries.{some}
 use Rattle.sv_laws.proofs.OpenFamilies.{active-lives, fresh-mem}
-use Rattle.sv_objects.specs.declared.bodies.Body.{Body}
 use Rattle.sv_objects.specs.Makings.{IsCellOf}
 use Rattle.sv_state.specs.declared.installs.Install.{Install}
-use Rattle.sv_state.specs.Refs.{IsKept}
 use Rattle.sv_state.specs.Writing.{TellsSwitch, write_of}
 use Rattle.sv_store.specs.Cells.{CellsHold, filled, with_row}
 use Rattle.sv_store.specs.Standing.{Stands}

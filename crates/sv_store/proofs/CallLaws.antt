@@ -1,5 +1,5 @@
 -- The store rests after each call that makes a SuperVersion.
-use Rattle.std.proofs.Common.{◌≡◌, ◌≢◌, ◌<◌, ◌+◌, ◌∷◌, ◌++◌, ℕ, true, List, [], length, set, Option, Some, None, refl, sym, ap, ◌∙◌, subst, arith}
+use Rattle.std.proofs.Common.{◌≡◌, ◌+◌, ℕ, List, length, Option, Some, None, refl, sym, ap, ◌∙◌, subst, arith}
 use Rattle.std.specs.Prelude.{slice_get}
 use Rattle.sv_model.specs.declared.records.Family.{Family}
 use Rattle.sv_model.specs.declared.records.Memtable.{Memtable}
@@ -15,7 +15,7 @@ use Rattle.sv_laws.specs.Growing.{IsPlaced}
 use Rattle.sv_laws.specs.Installs.{live_super, next_top}
 use Rattle.sv_laws.specs.NewCurrents.{IsFamilyMade}
 use Rattle.sv_laws.proofs.BorneRows.{mem-within, unborne}
-use Rattle.sv_laws.proofs.Growing.{get_within, placed-push, placed-set}
+use Rattle.sv_laws.proofs.GrownRegisters.{get_within, placed-push, placed-set}
 use Rattle.sv_model.proofs.Entries.{some}
 use Rattle.sv_objects.specs.declared.bodies.Body.{Body}
 use Rattle.sv_state.specs.declared.installs.Install.{Install}

@@ -1,8 +1,6 @@
 -- What the cells hold goes on.
-use Rattle.std.proofs.Common.{◌≡◌, ◌≢◌, ◌<◌, ◌+◌, ◌++◌, ◌∷◌, ◌⊎◌, inl, inr, ⊎_elim, ℕ, suc, Bool, true, false, List, [], length, map, set, Option, Some, None, refl, sym, ap, ◌∙◌, subst, arith, length-set}
+use Rattle.std.proofs.Common.{◌≡◌, ◌≢◌, ◌<◌, ◌+◌, ◌++◌, ◌∷◌, ◌⊎◌, inl, inr, ⊎_elim, ℕ, Bool, true, false, List, [], length, set, Option, Some, None, refl, sym, ap, ◌∙◌, subst, arith, length-set}
 use Rattle.std.specs.Prelude.{slice_get}
-use mathlib.Core.Logic.{dite}
-use native.Mathlib.Decide.{ℕ_discrete}
 use Rattle.sv_model.specs.declared.writes.Row.{Row}
 use Rattle.sv_model.specs.declared.writes.Write.{Write}
 use Rattle.sv_model.specs.declared.records.Memtable.{Memtable}
@@ -15,11 +13,11 @@ use Rattle.sv_model.specs.Lawful.{Lawful}
 use Rattle.sv_model.specs.Lists.{In}
 use Rattle.sv_model.specs.Named.{IsLive, memtable_live}
 use Rattle.sv_model.specs.Registers.{entry}
-use Rattle.sv_model.proofs.Registers.{entry-new, entry-old, entry_le, entry_push, get-some}
-use Rattle.sv_laws.specs.Cleaning.{AreCellsGone, IsCleaned, Went}
+use Rattle.sv_model.proofs.Registers.{entry-new, entry-old, entry_push, get-some}
+use Rattle.sv_laws.specs.Cleaning.{AreCellsGone, IsCleaned}
 use Rattle.sv_laws.specs.Installs.{HasCell}
 use Rattle.sv_laws.proofs.BorneRows.{borne-other, borne-same}
-use Rattle.sv_laws.proofs.Growing.{placed-set, placed_get}
+use Rattle.sv_laws.proofs.GrownRegisters.{placed-set, placed_get}
 use Rattle.sv_laws.specs.Growing.{IsPlaced}
 use Rattle.sv_model.proofs.Entries.{get_push, in-left, in-none, in-right, some}
 use Rattle.sv_store.specs.Cells.{CellsHold, HoldsAt, IsInCell, IsVacant, Vacated, with_row}

@@ -1,5 +1,5 @@
 -- The store stands where what it rests on is as it was.
-use Rattle.std.proofs.Common.{◌≡◌, ◌≢◌, ◌⊎◌, ℕ, List, Option, Some, None, set, refl, sym, ap, ◌∙◌, subst, false}
+use Rattle.std.proofs.Common.{◌≡◌, ◌⊎◌, ℕ, List, Option, Some, None, set, sym, ap, ◌∙◌, subst, false}
 use Rattle.std.specs.Prelude.{IfOk, OnErr, OnOk, Ok, Err, Result, slice_get}
 use mathlib.Core.Logic.{dite}
 use native.Mathlib.Decide.{ℕ_discrete}
@@ -16,7 +16,7 @@ use Rattle.sv_model.specs.Registers.{entry}
 use Rattle.sv_model.specs.Steady.{Sound}
 use Rattle.sv_laws.specs.Families.{IsDropped, IsOpened}
 use Rattle.sv_laws.specs.Snapping.{IsSnapped}
-use Rattle.sv_laws.proofs.Growing.{placed-set}
+use Rattle.sv_laws.proofs.GrownRegisters.{placed-set}
 use Rattle.sv_laws.proofs.Handles.{not-retired, not-retired-open}
 use Rattle.sv_state.specs.Currents.{HasCurrentAt, OwnHaveCurrents}
 use Rattle.sv_state.specs.Seen.{StateSeen}

@@ -1,9 +1,6 @@
 -- The store rests as it opens.
-use Rattle.std.proofs.Common.{◌≡◌, ◌≤◌, ◌+◌, ◌∷◌, inl, ℕ, zero, suc, true, List, [], length, Option, Some, None, replicate, refl, sym, ap, ◌∙◌, subst, arith}
+use Rattle.std.proofs.Common.{◌≡◌, ◌≤◌, inl, ℕ, zero, suc, true, [], Some, None, replicate, refl, sym, ap, subst, arith}
 use Rattle.std.specs.Prelude.{slice_get}
-use Rattle.sv_model.specs.declared.records.Memtable.{Memtable}
-use Rattle.sv_model.specs.Books.{Books}
-use Rattle.sv_model.specs.Cells.{Cell}
 use Rattle.sv_model.specs.Named.{HasCurrent}
 use Rattle.sv_model.specs.Openings.{opening_books}
 use Rattle.sv_model.proofs.Entries.{entry_none, entry_one, get_one, some}

@@ -1,5 +1,5 @@
 -- The store stands through an install and a cleanup.
-use Rattle.std.proofs.Common.{◌≡◌, ◌≢◌, ◌<◌, ◌+◌, ◌*◌, ◌∷◌, ◌++◌, ◌⊎◌, inl, inr, ⊎_elim, ℕ, suc, true, false, List, [], Option, Some, None, length, set, refl, sym, ap, ◌∙◌, subst, arith}
+use Rattle.std.proofs.Common.{◌≡◌, ◌≢◌, ◌<◌, ◌+◌, ◌*◌, ◌∷◌, ◌++◌, ◌⊎◌, inl, inr, ⊎_elim, ℕ, true, false, List, [], Option, Some, None, length, refl, sym, ap, ◌∙◌, subst, arith}
 use Rattle.std.specs.Prelude.{slice_get}
 use mathlib.Core.Logic.{dite}
 use native.Mathlib.Decide.{ℕ_discrete}
@@ -9,7 +9,6 @@ use Rattle.sv_model.specs.declared.records.Top.{Top}
 use Rattle.sv_model.specs.declared.sv_refs.SvRef.{SvRef}
 use Rattle.sv_model.specs.Books.{Books}
 use Rattle.sv_model.specs.Cells.{Cell}
-use Rattle.sv_model.specs.Families.{is_retired}
 use Rattle.sv_model.specs.Named.{HasCurrent}
 use Rattle.sv_model.specs.Registers.{entry}
 use Rattle.sv_model.specs.Steady.{IsCurrent, Sound}
@@ -21,13 +20,12 @@ use Rattle.sv_laws.specs.Installs.{IsOpen}
 use Rattle.sv_model.proofs.Entries.{some}
 use Rattle.sv_laws.proofs.OpenFamilies.{current-top}
 use Rattle.sv_objects.specs.declared.bodies.Body.{Body}
-use Rattle.sv_state.specs.Currents.{HasCurrentAt}
 use Rattle.sv_state.specs.Follows.{Follows}
 use Rattle.sv_state.specs.Gone.{IsFree}
 use Rattle.sv_state.specs.Refs.{IsKept, IsRefOf}
 use Rattle.sv_store.specs.Cells.{CellsHold, Vacated}
 use Rattle.sv_store.specs.Going.{CurrentGoes, PackGoes}
-use Rattle.sv_store.specs.Standing.{HaveCurrents, IsAloneBut, MayGo, Stands, Waits}
+use Rattle.sv_store.specs.Standing.{HaveCurrents, IsAloneBut, Stands}
 use Rattle.sv_store.proofs.CellLaws.{cleaned-cells}
 
 -- ---- a pack tells its serial

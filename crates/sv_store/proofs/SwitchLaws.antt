@@ -1,20 +1,17 @@
 -- A switch and the cleanup after it.
-use Rattle.std.proofs.Common.{◌≡◌, ◌≢◌, ◌<◌, ◌≤◌, ◌+◌, ◌++◌, ◌∷◌, ℕ, true, false, List, [], length, set, Option, Some, None, refl, sym, ap, ◌∙◌, subst, arith}
+use Rattle.std.proofs.Common.{◌≡◌, ◌≢◌, ◌+◌, ℕ, false, length, Option, Some, refl, ap, ◌∙◌, arith}
 use Rattle.std.specs.Prelude.{slice_get}
 use Rattle.sv_model.specs.declared.records.Memtable.{Memtable}
-use Rattle.sv_model.specs.declared.records.SuperVersion.{SuperVersion}
 use Rattle.sv_model.specs.declared.records.Top.{Top}
 use Rattle.sv_model.specs.declared.sv_refs.SvRef.{SvRef}
-use Rattle.sv_model.specs.declared.writes.Write.{Write}
 use Rattle.sv_model.specs.Books.{Books}
 use Rattle.sv_model.specs.Journal.{borne_by, of_family}
 use Rattle.sv_model.specs.Registers.{entry}
 use Rattle.sv_model.specs.Steady.{Sound}
 use Rattle.sv_model.proofs.Registers.{entry-else, entry-new, entry-old, entry_le}
-use Rattle.sv_laws.specs.Cleaning.{without}
-use Rattle.sv_laws.specs.Installs.{IsOpen, live_super, next_top}
+use Rattle.sv_laws.specs.Installs.{live_super, next_top}
 use Rattle.sv_laws.specs.NewCurrents.{IsSwitched}
-use Rattle.sv_laws.proofs.Growing.{placed-set}
+use Rattle.sv_laws.proofs.GrownRegisters.{placed-set}
 use Rattle.sv_laws.proofs.OpenFamilies.{fresh-mem}
 use Rattle.sv_objects.specs.declared.bodies.Body.{Body}
 use Rattle.sv_state.specs.Refs.{IsKept}

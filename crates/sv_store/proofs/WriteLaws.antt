@@ -1,5 +1,5 @@
 -- What a write answers and leaves, put together from its plan, its switch and its row.
-use Rattle.std.proofs.Common.{◌≡◌, ◌<◌, ◌≤◌, ◌∷◌, ◌⊎◌, inl, inr, ⊎_elim, ℕ, Bool, true, false, List, [], length, Option, Some, None, Result, Ok, Err, refl, sym, ap, ◌∙◌, subst, arith}
+use Rattle.std.proofs.Common.{◌≡◌, ◌<◌, ◌∷◌, inl, inr, ⊎_elim, ℕ, Bool, true, false, List, [], length, Option, Some, None, Result, Ok, Err, refl, sym, ap, ◌∙◌, subst, arith}
 use Rattle.std.specs.Prelude.{IfOk, OnErr, cond, nat_le}
 use Rattle.sv_model.specs.declared.refusals.Refusal.{Refusal}
 use Rattle.sv_model.specs.declared.refusals.Refusal.TheVariants as refusal
@@ -9,10 +9,8 @@ use Rattle.sv_model.specs.declared.writes.Write.{Write}
 use Rattle.sv_model.specs.Books.{Books}
 use Rattle.sv_model.specs.Cells.{Cell}
 use Rattle.sv_model.specs.Families.{InRange}
-use Rattle.sv_model.specs.Journal.{borne_by}
 use Rattle.sv_model.specs.Refusals.{IsDue, Refuses, first_due}
-use Rattle.sv_model.specs.Steady.{Sound}
-use Rattle.sv_model.proofs.Refusing.{none_due}
+use Rattle.sv_model.proofs.RefusalLaws.{none_due}
 use Rattle.sv_cells.specs.Calls.{memtables_refusal}
 use Rattle.sv_journal.specs.Calls.{journal_refusal}
 use Rattle.sv_registry.specs.Calls.{make_refusal}

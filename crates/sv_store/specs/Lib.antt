@@ -1,6 +1,15 @@
 pub mod Cells
+pub mod Emptying
+pub mod Flushing
 pub mod Going
+pub mod Installing
+pub mod LiveFiles
 pub mod Opening
+pub mod Outputs
+pub mod Purging
+pub mod Reading
+pub mod Releasing
+pub mod Removals
 pub mod Seen
 pub mod Setting
 pub mod Standing

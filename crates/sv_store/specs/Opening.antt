@@ -1,5 +1,5 @@
 -- The cells of the store that opens.
-use Rattle.std.specs.Prelude.{ℕ, List, [], Option, None, Some, replicate}
+use Rattle.std.specs.Prelude.{List, Option, None, Some, replicate}
 use Rattle.sv_model.specs.Cells.{Cell}
 use Rattle.sv_store.specs.Cells.{filled}
 

@@ -1,10 +1,10 @@
 // Families are made and dropped, and handles of them taken.
 ghost use Rattle.std.specs.Prelude.{◌≡◌, ◌∷◌, [], IfOk, IsSomeAnd, OnErr, length, slice_get};
-ghost use Rattle.sv_model.specs.Families.{IsOwn};
+ghost use Rattle.sv_model.specs.Families.{IsOwn, IsStanding};
 ghost use Rattle.sv_model.specs.Refusals.{Refuses, RefusesExactly, first_due};
 ghost use Rattle.sv_cells.specs.Calls.{memtables_refusal};
 ghost use Rattle.sv_registry.specs.Calls.{make_refusal};
-ghost use Rattle.sv_family.specs.Calls.{new_family};
+ghost use Rattle.sv_family.specs.Calls.{IsFreshTo, new_family};
 ghost use Rattle.sv_family.specs.Refused.{create_refusal, drop_refusal, open_refusal};
 ghost use Rattle.sv_laws.specs.Families.{IsDropped, IsOpened};
 ghost use Rattle.sv_laws.specs.NewCurrents.{IsFamilyMade};
@@ -36,6 +36,8 @@ impl Store {
     /// `NoFamily`. Takes no memory.
     pub fn open_family(&mut self, name: &Name) -> Result<FamilyId, Refusal>
         ensures opened { IfOk result (λ id. IsOpened self.old.books self.new.books id 0) }
+        ensures fresh { IfOk result (IsFreshTo 0 self.old.books.families) }
+        ensures standing { IfOk result (λ id. IsSomeAnd (slice_get self.old.books.families id) (IsStanding name.now)) }
         ensures refused { RefusesExactly (open_refusal self.old.books.families 0 name.now) result }
         ensures kept { OnErr result (self.new ≡ self.old) }
         ensures cells { self.new.cells ≡ self.old.cells }

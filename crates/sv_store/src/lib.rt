@@ -4,15 +4,26 @@
 mod appends;
 mod cells;
 mod cleanups;
+mod emptying;
 mod families;
 mod filling;
+mod flush_files;
+mod flush_installs;
+mod flushes;
 mod holds;
 mod installs;
+mod live;
 mod openings;
 mod options;
+mod purges;
+mod reads;
+mod releases;
+mod removals;
 mod snapshots;
 mod store;
+mod summaries;
 mod switches;
 mod writes;
 
+pub use reads::Got;
 pub use store::Store;

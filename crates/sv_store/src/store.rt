@@ -1,4 +1,6 @@
 // The store, which contracts see as its books and its cells.
+ghost use Rattle.sv_store.specs.Standing.{Rests};
+
 use crate::cells::Cells;
 use std::alloc::Global;
 use std::marker::Model;
@@ -22,4 +24,13 @@ impl Model for Store {
     ghost view = { λ s. seen_of s };
 
     ghost invariant = { λ s. Keeps s };
+}
+
+impl Store {
+    /// What holds of the store between calls. Does nothing.
+    pub fn laws(&self)
+        ensures rests { Rests self.now.books self.now.cells }
+    {
+        let _ = &self.alloc;
+    }
 }

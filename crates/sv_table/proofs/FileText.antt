@@ -9,8 +9,8 @@ use Rattle.sv_model.specs.TableText.{Format, One, Two, Three, written, flag, hea
 use Rattle.sv_model.specs.TableTextFields.{is_flag, is_length, start}
 use Rattle.sv_table.specs.Reading.{◌>>=◌, Header, Entry, shape_of, seen_after, walked, entries_in, kept_of, kept_in, HasRows, header_at, tail_at, ended, file_at}
 use Rattle.sv_table.proofs.OneField.{IsBytes}
-use Rattle.sv_table.proofs.Runs.{ok_is}
-use Rattle.sv_table.proofs.Spelling.{bind_ok, bind_path}
+use Rattle.sv_table.proofs.FieldRuns.{ok_is}
+use Rattle.sv_table.proofs.ReaderTexts.{bind_ok, bind_path}
 use Rattle.sv_table.proofs.HeaderText.{CutsFit, BottomFits, HeaderFits, text_of, header_spells}
 use Rattle.sv_table.proofs.RowText.{EntriesFit, entries_text, entries_spells, tail_text, tail_spells}
 use Rattle.sv_table.proofs.KeptRows.{kept, entry_of, ordered, ends_stand, stored, deletes_cover, texts_same, ranges_same, Few, entries_back, entries_fit}

@@ -13,8 +13,8 @@ use Rattle.sv_model.specs.Flat.{CutsFrom}
 use Rattle.sv_model.specs.TableText.{Format, One, Two, Three, magic, flag, cuts_text, header_text, AreBytes}
 use Rattle.sv_model.specs.TableTextFields.{is_magic, format_of, has_cuts, is_flag, is_cut, is_count, is_length, Magic, From, To, LastFlag, CutCount, Cut, Count}
 use Rattle.sv_table.specs.Reading.{◌>>=◌, Header, checked, number_at, bytes_at, byte_at, format_at, range_at, each_cut_at, some_cuts_at, bottom_at, header_at}
-use Rattle.sv_table.proofs.Spelling.{Spells, Joins, spells_bind, spells_done, respelled}
-use Rattle.sv_table.proofs.Leaves.{spells_u64, spells_any_u64, spells_u32, spells_byte, spells_bytes}
+use Rattle.sv_table.proofs.ReaderTexts.{Spells, Joins, spells_bind, spells_done, respelled}
+use Rattle.sv_table.proofs.FieldTexts.{spells_u64, spells_any_u64, spells_u32, spells_byte, spells_bytes}
 
 -- ---- the magic
 

@@ -16,7 +16,7 @@ use Rattle.sv_table.specs.Lookups.{op_upto}
 use Rattle.sv_table.specs.Places.{Stands, HasRowAt, ArePlaces, HasPlaces}
 use Rattle.sv_table.specs.Reading.{Header, Entry, shape_of, entry_at, kept_of}
 use Rattle.sv_table.proofs.OneField.{IsBytes, bytes_rest}
-use Rattle.sv_table.proofs.Runs.{ok_is}
+use Rattle.sv_table.proofs.FieldRuns.{ok_is}
 use Rattle.sv_table.proofs.RowText.{NumberFits, EntryFits, entry_spells}
 
 -- ---- a row read as a first one

@@ -13,8 +13,8 @@ use Rattle.sv_model.specs.Journal.{is_delete}
 use Rattle.sv_model.specs.TableText.{Format, One, Two, Three, key_text, end_text, op_text, AreBytes, IsStoredOp}
 use Rattle.sv_model.specs.TableTextFields.{has_cuts, is_length, Shape, Seen, key_fits, number_fits, delete_fits, mark_fits, KeyLength, KeyBytes, EndNumber, OpMark, ValueLength, ValueBytes, LeastLength, LeastKey}
 use Rattle.sv_table.specs.Reading.{◌>>=◌, Entry, checked, number_at, bytes_at, byte_at, key_at, end_at, value_at, op_at, entry_at, see_entry, entries_at, exact_key_at, has_range, tail_at}
-use Rattle.sv_table.proofs.Spelling.{Spells, Joins, spells_bind, spells_done, respelled}
-use Rattle.sv_table.proofs.Leaves.{spells_u16, spells_byte, spells_bytes, spells_any_bytes, spells_these}
+use Rattle.sv_table.proofs.ReaderTexts.{Spells, Joins, spells_bind, spells_done, respelled}
+use Rattle.sv_table.proofs.FieldTexts.{spells_u16, spells_byte, spells_bytes, spells_any_bytes, spells_these}
 
 abbrev le16 : ℕ → List ℕ
 le16 n = to_le_bytes w16 n

@@ -19,7 +19,7 @@ use Rattle.sv_model.proofs.Registers.{entry-else, entry-same, length-change}
 use Rattle.sv_laws.specs.Cleaning.{AreCellsGone, IsCleaned, TurnsFile}
 use Rattle.sv_laws.proofs.Registers.{total-le, total-same}
 use Rattle.sv_turns.specs.Called.{IsCalled}
-use Rattle.sv_turns.proofs.Counting.{cond-zero}
+use Rattle.sv_turns.proofs.StatusCounts.{cond-zero}
 use Rattle.sv_turns.proofs.Frames.{jobs-stand, true_not_false, turns-numbers}
 
 module _ (Named : ℕ → Type 0) where

@@ -22,7 +22,7 @@ use Rattle.sv_model.proofs.Registers.{entry-new, entry_le}
 use Rattle.sv_laws.specs.Growing.{IsPlaced}
 use Rattle.sv_laws.specs.Installs.{IsOpen, live_super, next_top}
 use Rattle.sv_laws.specs.NewCurrents.{IsCompacted, IsFlushed, IsOptionSet, IsSwitched}
-use Rattle.sv_laws.proofs.Growing.{placed-set}
+use Rattle.sv_laws.proofs.GrownRegisters.{placed-set}
 use Rattle.sv_laws.proofs.Handles.{not-retired-open}
 use Rattle.sv_turns.specs.Called.{IsCalled, next_pack}
 use Rattle.sv_turns.proofs.Families.{at-here, at-other, handles-same, none_retires}

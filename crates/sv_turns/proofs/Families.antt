@@ -12,7 +12,7 @@ use Rattle.sv_model.specs.declared.records.Family.{Family}
 use Rattle.sv_model.proofs.Entries.{some}
 use Rattle.sv_model.proofs.Lists.{same_here, same_other}
 use Rattle.sv_laws.specs.Families.{IsCurrentEnded, IsDropped, IsOpened, IsReleased, IsRetired, released}
-use Rattle.sv_laws.proofs.Growing.{placed-set}
+use Rattle.sv_laws.proofs.GrownRegisters.{placed-set}
 use Rattle.sv_laws.proofs.Handles.{not-retired, not-retired-open}
 use Rattle.sv_turns.specs.Called.{IsCalled, MovesHandles}
 use Rattle.sv_turns.specs.Owned.{opens_family, releases, without}

@@ -7,10 +7,10 @@ use Rattle.sv_model.specs.Summaries.{is_gone, is_obsolete}
 use Rattle.sv_model.specs.declared.records.FileStatus.{FileStatus}
 use Rattle.sv_model.specs.declared.records.FileStatus.TheVariants.{Grabbed, Obsolete}
 use Rattle.sv_model.specs.declared.records.RegisteredFile.{RegisteredFile}
-use Rattle.sv_model.proofs.Ascending.{rises_from}
+use Rattle.sv_model.proofs.AscendingLists.{rises_from}
 use Rattle.sv_model.proofs.Lists.{in_times, times_in, total-append}
 use Rattle.sv_files.specs.Calls.{IsFound, IsScanned, grab, stray}
-use Rattle.sv_turns.proofs.Counting.{having-found, having-not_found, having-strays, having_registered, statuses}
+use Rattle.sv_turns.proofs.StatusCounts.{having-found, having-not_found, having-strays, having_registered, statuses}
 use Rattle.sv_turns.proofs.Orders.{distinct-times, rises-times}
 
 -- a number is in the list once or not at all

@@ -16,7 +16,7 @@ use Rattle.sv_model.proofs.Entries.{get_none, in-cons, in-suc, some}
 use Rattle.sv_files.specs.Calls.{IsFound, IsScanned, IsTaken, ungrabbed}
 use Rattle.sv_turns.specs.Called.{IsCalled, StandsElse, marked}
 use Rattle.sv_turns.specs.Owned.{begins_job, ends_job, gives_back, grabbed_mark, without_mark}
-use Rattle.sv_turns.proofs.Counting.{cond-zero, having-marked, marks-found}
+use Rattle.sv_turns.proofs.StatusCounts.{cond-zero, having-marked, marks-found}
 use Rattle.sv_turns.proofs.Found.{IsOther, as_gone, as_live, as_pending, found-grabbed, found-same, scanned-grabbed, scanned-same}
 use Rattle.sv_turns.proofs.Writes.{stands-all}
 use Rattle.sv_turns.proofs.Frames.{jobs-stand, true_not_false, turns-numbers}

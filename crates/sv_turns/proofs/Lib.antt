@@ -1,6 +1,5 @@
 pub mod Accounts
 pub mod Cleanups
-pub mod Counting
 pub mod Currents
 pub mod Families
 pub mod Found
@@ -11,5 +10,6 @@ pub mod Listings
 pub mod Memtables
 pub mod Orders
 pub mod Outputs
+pub mod StatusCounts
 pub mod Unrefused
 pub mod Writes

@@ -23,7 +23,7 @@ use Rattle.sv_model.proofs.Lists.{times_in}
 use Rattle.sv_model.proofs.Registers.{has_total}
 use Rattle.sv_files.specs.Calls.{IsScanned}
 use Rattle.sv_turns.specs.Listings.{TellsScan}
-use Rattle.sv_turns.proofs.Counting.{having_registered}
+use Rattle.sv_turns.proofs.StatusCounts.{having_registered}
 use Rattle.sv_turns.proofs.Found.{scanned-grabbed, scanned-obsolete, scanned-registered}
 
 -- a number that has the status is registered with it

@@ -24,7 +24,7 @@ use Rattle.sv_model.proofs.Registers.{entry-new}
 use Rattle.sv_laws.specs.NewCurrents.{IsFamilyMade, IsSwitched}
 use Rattle.sv_laws.specs.Installs.{live_super, next_top}
 use Rattle.sv_laws.proofs.BorneRows.{mem-within, unborne}
-use Rattle.sv_laws.proofs.Growing.{get_within, placed-push}
+use Rattle.sv_laws.proofs.GrownRegisters.{get_within, placed-push}
 use Rattle.sv_laws.proofs.Handles.{not-retired-open}
 use Rattle.sv_turns.specs.Called.{IsCalled, next_pack}
 use Rattle.sv_turns.specs.Owned.{opens_family}

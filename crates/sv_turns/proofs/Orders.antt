@@ -3,7 +3,7 @@ use Rattle.std.proofs.Common.{List, Some, [], ap, arith, refl, suc, sym, zero, �
 use mathlib.Core.Logic.{dite}
 use native.Mathlib.Decide.{ℕ_discrete}
 use Rattle.sv_model.specs.Lists.{Distinct, In, times}
-use Rattle.sv_model.proofs.Ascending.{Rises}
+use Rattle.sv_model.proofs.AscendingLists.{Rises}
 use Rattle.sv_model.proofs.Lists.{in_times, same-le, same_other}
 
 pub no_more : (k : ℕ) → (0 < k → ⊥) → k ≡ 0

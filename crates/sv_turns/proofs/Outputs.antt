@@ -19,7 +19,7 @@ use Rattle.sv_laws.specs.Captures.{IsFileCaptured, IsFlushBegun, IsGivenUp, IsMe
 use Rattle.sv_laws.specs.NewCurrents.{IsCompacted, IsFlushed}
 use Rattle.sv_turns.specs.Called.{IsCalled, StandsElse}
 use Rattle.sv_turns.specs.Owned.{captures_output, without_output}
-use Rattle.sv_turns.proofs.Counting.{cond-zero, having-marked, having-push}
+use Rattle.sv_turns.proofs.StatusCounts.{cond-zero, having-marked, having-push}
 use Rattle.sv_turns.proofs.Writes.{stands-all}
 use Rattle.sv_turns.proofs.Frames.{jobs-stand, turns-numbers}
 

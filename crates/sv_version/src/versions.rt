@@ -113,8 +113,8 @@ impl Versions {
         self.versions.release(version.0)
     }
 
-    // A Version with these files.
-    fn append(&mut self, files: Vec<FileMeta>) -> Result<VersionId, OutOfMemory>
+    /// A new Version with these files, whose ranges join and whose numbers differ.
+    pub fn append(&mut self, files: Vec<FileMeta>) -> Result<VersionId, OutOfMemory>
         requires sound { IsSound (live_version files.items) }
         requires few { length self.old < MAX_VERSIONS }
         ensures ok { IfOk result (IsMade self.old files.items self.new) }

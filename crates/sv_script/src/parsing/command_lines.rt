@@ -48,14 +48,14 @@ fn of_verb(alloc: Global, verb: Verb, words: &[&[u8]]) -> Result<Command, WordEr
             let (pin, key) = pin_and_key(alloc, words)?;
             Ok(Command::Getp { pin, key })
         }
-        Verb::Flush => Ok(Command::Flush(family_alone(alloc, words)?)),
-        Verb::Compact => Ok(Command::Compact(family_alone(alloc, words)?)),
-        Verb::Create => Ok(Command::Create(family_alone(alloc, words)?)),
-        Verb::Open => Ok(Command::Open(family_alone(alloc, words)?)),
-        Verb::Release => Ok(Command::Release(family_alone(alloc, words)?)),
-        Verb::Drop => Ok(Command::Drop(family_alone(alloc, words)?)),
-        Verb::Set => set(alloc, words),
-        Verb::Pin => Ok(Command::Pin(family_alone(alloc, words)?)),
+        Verb::Flush => Ok(Command::Flush(family_alone(words)?)),
+        Verb::Compact => Ok(Command::Compact(family_alone(words)?)),
+        Verb::Create => Ok(Command::Create(family_alone(words)?)),
+        Verb::Open => Ok(Command::Open(family_alone(words)?)),
+        Verb::Release => Ok(Command::Release(family_alone(words)?)),
+        Verb::Drop => Ok(Command::Drop(family_alone(words)?)),
+        Verb::Set => set(words),
+        Verb::Pin => Ok(Command::Pin(family_alone(words)?)),
         Verb::Unpin => Ok(Command::Unpin(number_alone(words)?)),
         Verb::Hold => alone(Command::Hold, words),
         Verb::Unhold => alone(Command::Unhold, words),

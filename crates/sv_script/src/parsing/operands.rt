@@ -25,10 +25,10 @@ use crate::scripts::BadKind;
 use std::alloc::Global;
 use sv_model::{Items, Name, OptionName};
 
-fn name(alloc: Global, word: &[u8]) -> Result<Name, WordError>
+fn name(word: &[u8]) -> Result<Name, WordError>
     ensures { Gives result (name word.now) }
 {
-    Name::new(alloc, word)?.ok_or(WordError::Bad(BadKind::Name))
+    Name::new(word).ok_or(WordError::Bad(BadKind::Name))
 }
 
 fn item(alloc: Global, word: &[u8]) -> Result<Items<u8>, WordError>
@@ -63,7 +63,7 @@ pub(crate) fn put(alloc: Global, words: &[&[u8]]) -> Result<Command, WordError>
     let [family, key, value] = words else {
         return Err(WordError::Bad(BadKind::Count));
     };
-    let family = name(alloc, family)?;
+    let family = name(family)?;
     let key = item(alloc, key)?;
     let value = item(alloc, value)?;
     Ok(Command::Put { family, key, value })
@@ -76,7 +76,7 @@ pub(crate) fn family_and_key(alloc: Global, words: &[&[u8]]) -> Result<(Name, It
     let [family, key] = words else {
         return Err(WordError::Bad(BadKind::Count));
     };
-    let family = name(alloc, family)?;
+    let family = name(family)?;
     let key = item(alloc, key)?;
     Ok((family, key))
 }
@@ -101,7 +101,7 @@ pub(crate) fn gets(alloc: Global, words: &[&[u8]]) -> Result<Command, WordError>
         return Err(WordError::Bad(BadKind::Count));
     };
     let snapshot = number(snapshot)?;
-    let family = name(alloc, family)?;
+    let family = name(family)?;
     let key = item(alloc, key)?;
     Ok(Command::Gets {
         snapshot,
@@ -111,13 +111,13 @@ pub(crate) fn gets(alloc: Global, words: &[&[u8]]) -> Result<Command, WordError>
 }
 
 #[tactic(auto, unfolding(crate::specs::Commands::set_of))]
-pub(crate) fn set(alloc: Global, words: &[&[u8]]) -> Result<Command, WordError>
+pub(crate) fn set(words: &[&[u8]]) -> Result<Command, WordError>
     ensures { Gives result (set_of (map (λ word. word.now) words.now)) }
 {
     let [family, option, value] = words else {
         return Err(WordError::Bad(BadKind::Count));
     };
-    let family = name(alloc, family)?;
+    let family = name(family)?;
     let option = option_name(option)?;
     let value = number(value)?;
     Ok(Command::Set {
@@ -128,13 +128,13 @@ pub(crate) fn set(alloc: Global, words: &[&[u8]]) -> Result<Command, WordError>
 }
 
 #[tactic(auto, unfolding(crate::specs::Commands::family_alone))]
-pub(crate) fn family_alone(alloc: Global, words: &[&[u8]]) -> Result<Name, WordError>
+pub(crate) fn family_alone(words: &[&[u8]]) -> Result<Name, WordError>
     ensures { Gives result (family_alone (map (λ word. word.now) words.now)) }
 {
     let [family] = words else {
         return Err(WordError::Bad(BadKind::Count));
     };
-    name(alloc, family)
+    name(family)
 }
 
 #[tactic(auto, unfolding(crate::specs::Commands::number_alone))]

@@ -1,7 +1,7 @@
 use Rattle.std.proofs.Common.{◌≡◌, ◌+◌, ◌/◌, ◌%◌, [], ◌∷◌, ◌++◌, length, length-append, sym, ap, ◌∙◌, arith, rules}
 use mathlib.Core.List.{append_assoc}
 use Rattle.sv_model.specs.Files.{padded}
-use Rattle.sv_dir.proofs.Spelling.{padded_one, padded_step, room_for_last}
+use Rattle.sv_dir.proofs.SpelledNumbers.{padded_one, padded_step, room_for_last}
 use Rattle.sv_dir.proofs.names.+push_digits.Goals as goal
 
 pub push_digit-requires-clause-room : goal.push_digit-requires-clause-room

@@ -1,4 +1,4 @@
-use Rattle.sv_family.proofs.Seeking.{retired_is}
+use Rattle.sv_family.proofs.SoughtFamilies.{retired_is}
 use Rattle.sv_family.proofs.sought.is_retired.Goals as goal
 
 pub returns-then-family : goal.returns-then-family

@@ -1,5 +1,5 @@
 use Rattle.std.proofs.Common.{Ok, Err}
-use Rattle.sv_files.proofs.Rising.{search-rising, below-ok, below-err}
+use Rattle.sv_files.proofs.AscendingNumbers.{search-rising, below-ok, below-err}
 use Rattle.sv_files.proofs.queue.count_below.Goals as goal
 
 pub returns-in-Ok-clause-below : goal.returns-in-Ok-clause-below

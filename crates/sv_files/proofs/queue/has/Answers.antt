@@ -1,6 +1,6 @@
 use Rattle.std.proofs.Common.{◌↔◌, Bool, Ok, Err, Result, is_ok, IsTrue, ℕ, List, sym, subst, refl}
 use Rattle.sv_model.specs.Lists.{In}
-use Rattle.sv_files.proofs.Rising.{Searches, search-rising, found-in, missed-in}
+use Rattle.sv_files.proofs.AscendingNumbers.{Searches, search-rising, found-in, missed-in}
 use Rattle.sv_files.proofs.queue.has.Goals as goal
 
 answers : (xs : List ℕ) (x : ℕ) (r : Result ℕ ℕ) → Searches xs x r → IsTrue (is_ok r) ↔ In x xs

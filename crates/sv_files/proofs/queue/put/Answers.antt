@@ -3,8 +3,8 @@ use Rattle.std.specs.List.{insert}
 use Rattle.std.specs.List.Sorted.{IsStrictlyIncreasing}
 use Rattle.std.specs.VecDeque.{deque_len, deque_capacity}
 use Rattle.sv_model.specs.Lists.{In}
-use Rattle.sv_files.proofs.Answered.{fine_holds}
-use Rattle.sv_files.proofs.Rising.{Searches, search-rising, found-in, insert_rising, insert_has, insert-old, insert_in}
+use Rattle.sv_files.proofs.AnswerLaws.{fine_holds}
+use Rattle.sv_files.proofs.AscendingNumbers.{Searches, search-rising, found-in, insert_rising, insert_has, insert-old, insert_in}
 use Rattle.sv_files.proofs.queue.put.Goals as goal
 
 searched : (c : goal.After-insert) → Searches c.args.queue.now.items c.args.number (Err c.in-Err.at)

@@ -1,8 +1,8 @@
 use Rattle.std.proofs.Common.{◌≡◌, Ok, Err, sym, subst}
 use Rattle.std.specs.List.{remove}
 use Rattle.sv_model.specs.Lists.{In}
-use Rattle.sv_files.proofs.Answered.{some_holds}
-use Rattle.sv_files.proofs.Rising.{Searches, search-rising, missed-in, remove_gone, remove_in, remove-old}
+use Rattle.sv_files.proofs.AnswerLaws.{some_holds}
+use Rattle.sv_files.proofs.AscendingNumbers.{Searches, search-rising, missed-in, remove_gone, remove_in, remove-old}
 use Rattle.sv_files.proofs.queue.take.Goals as goal
 
 searched : (c : goal.After-remove) → Searches c.args.queue.now.items c.args.number (Ok c.in-Ok.at)

@@ -7,7 +7,7 @@ use Rattle.std.specs.BTreeMap.{BTreeMap, get}
 use Rattle.std.proofs.lemmas.Result.{on_ok_weaker, on_err_weaker}
 use Rattle.sv_model.specs.Journal.{same_key}
 use Rattle.sv_memtable.specs.Index.{numbers_at}
-use Rattle.sv_memtable.proofs.Indexing.{notes_from, leads_as_before}
+use Rattle.sv_memtable.proofs.IndexLaws.{notes_from, leads_as_before}
 use Rattle.sv_memtable.proofs.cells.note.Goals as goal
 
 -- what the map has after a write through what it lent

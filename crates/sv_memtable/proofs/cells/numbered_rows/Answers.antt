@@ -4,7 +4,7 @@ use Rattle.std.specs.BTreeMap.{values}
 use Rattle.std.specs.List.{All, AllByRecursion}
 use Rattle.std.specs.Map.Iter.{deref}
 use Rattle.std.proofs.lemmas.Map.Iter.{rest_more, rest_all}
-use Rattle.sv_memtable.proofs.Indexing.{IsOfRow}
+use Rattle.sv_memtable.proofs.IndexLaws.{IsOfRow}
 use Rattle.sv_memtable.proofs.CopiedRows.{copies_of, takes, ends, all_of_rows, copies_are_frozen}
 use Rattle.sv_memtable.proofs.cells.numbered_rows.Goals as goal
 

@@ -1,7 +1,7 @@
 use Rattle.std.proofs.Common.{◌≡◌, ◌++◌}
 use Rattle.std.specs.BTreeMap.{values}
 use Rattle.std.specs.List.{All, AllByRecursion}
-use Rattle.sv_memtable.proofs.Indexing.{IsOfRow}
+use Rattle.sv_memtable.proofs.IndexLaws.{IsOfRow}
 use Rattle.sv_memtable.proofs.CopiedRows.{copies_of}
 use Rattle.sv_memtable.proofs.cells.numbered_rows.Given as goal
 

@@ -1,6 +1,6 @@
 use Rattle.std.proofs.Common.{◌+◌, arith}
 use Rattle.sv_model.proofs.Lists.{same_here}
-use Rattle.sv_model.proofs.Lowering.{times-take_more, times-take-le}
+use Rattle.sv_model.proofs.CountLoops.{times-take_more, times-take-le}
 use Rattle.sv_model.proofs.raising.forget.Goals as goal
 
 pub down-requires : goal.down-requires

@@ -1,6 +1,6 @@
 use Rattle.std.proofs.Common.{◌∙◌, ◌+◌, ◌++◌, ◌∷◌, [], ap, sym, subst, arith}
 use Rattle.sv_model.specs.Counts.{count_of}
-use Rattle.sv_model.proofs.Lowering.{Lowering, lowering_held, lowering_given, lowering_kept, lowering_end}
+use Rattle.sv_model.proofs.CountLoops.{Lowering, lowering_held, lowering_given, lowering_kept, lowering_end}
 use Rattle.sv_model.proofs.raising.lower.Goals as goal
 use Rattle.sv_model.proofs.raising.lower.Goals.{then-left-eq0, else-left-eq0}
 

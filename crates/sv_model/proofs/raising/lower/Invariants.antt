@@ -1,6 +1,6 @@
 use Rattle.std.proofs.Common.{◌≤◌, length}
 use Rattle.sv_model.specs.Counts.{count_of}
-use Rattle.sv_model.proofs.Lowering.{Lowering}
+use Rattle.sv_model.proofs.CountLoops.{Lowering}
 use Rattle.sv_model.proofs.raising.lower.Given as goal
 
 abbrev pub invariant-loop-at : goal.invariant-loop-at

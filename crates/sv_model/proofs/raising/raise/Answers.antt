@@ -1,6 +1,6 @@
 use Rattle.std.proofs.Common.{arith}
 use Rattle.sv_model.proofs.Lists.{same_here}
-use Rattle.sv_model.proofs.Lowering.{times-take_more, times_split}
+use Rattle.sv_model.proofs.CountLoops.{times-take_more, times_split}
 use Rattle.sv_model.proofs.raising.raise.Goals as goal
 
 pub up-requires : goal.up-requires

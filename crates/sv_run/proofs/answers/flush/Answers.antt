@@ -1,6 +1,6 @@
 -- What the store ensures of a flush is the step of the command.
 use Rattle.std.proofs.Common.{ℕ, [], refl}
-use Rattle.sv_model.proofs.Refusing.{none_due-next}
+use Rattle.sv_model.proofs.RefusalLaws.{none_due-next}
 use Rattle.sv_script.specs.Answered.{handle_of}
 use Rattle.sv_script.specs.ReplyLaw.{handle_refusal}
 use Rattle.sv_run.specs.States.{state_of}

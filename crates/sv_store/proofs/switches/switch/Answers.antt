@@ -1,5 +1,4 @@
-use Rattle.std.proofs.Common.{◌≡◌, Some, refl, sym, ap, ◌∙◌, subst}
-use Rattle.sv_model.specs.Cells.{Cell}
+use Rattle.std.proofs.Common.{sym, ◌∙◌, subst}
 use Rattle.sv_model.specs.Books.{Books}
 use Rattle.sv_store.specs.Standing.{IsStill}
 use Rattle.sv_store.specs.Writing.{IsEmptyIn}

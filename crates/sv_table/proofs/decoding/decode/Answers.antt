@@ -1,8 +1,8 @@
 use Rattle.std.proofs.Common.{List, Ok, sym, ap, ◌∙◌}
 use Rattle.sv_model.specs.declared.writes.Kept.{Kept}
 use Rattle.sv_table.specs.Views.{header_is}
-use Rattle.sv_table.proofs.Stops.{within}
-use Rattle.sv_table.proofs.Whole.{bad_file, table_rows, file_is}
+use Rattle.sv_table.proofs.BadFields.{within}
+use Rattle.sv_table.proofs.WholeFiles.{bad_file, table_rows, file_is}
 use Rattle.sv_table.proofs.decoding.decode.Goals as goal
 
 pub overflow_sub-result : goal.overflow_sub-result

@@ -3,7 +3,7 @@ use Rattle.sv_model.specs.TableTextFields.{Seen}
 use Rattle.sv_table.specs.Reading.{Entry, entries_in, kept_in, kept_of, see_entry}
 use Rattle.sv_table.specs.Views.{header_is, shape_is, entry_is}
 use Rattle.sv_model.specs.declared.writes.Kept.{Kept}
-use Rattle.sv_table.proofs.Loops.{Succeeds, rest_at, never_fails, goes_on, kept_front, kept_goes, kept_done, row_facts, within_cuts}
+use Rattle.sv_table.proofs.ItemLoops.{Succeeds, rest_at, never_fails, goes_on, kept_front, kept_goes, kept_done, row_facts, within_cuts}
 use Rattle.sv_table.proofs.decoding.rows_of.Goals as goal
 
 pub unreachable-requires : goal.unreachable-requires

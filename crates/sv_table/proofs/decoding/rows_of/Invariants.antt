@@ -3,7 +3,7 @@ use Rattle.sv_model.specs.TableTextFields.{Seen}
 use Rattle.sv_table.specs.Reading.{entries_in, kept_in}
 use Rattle.sv_table.specs.Views.{header_is, shape_is}
 use Rattle.sv_table.proofs.OneField.{IsBytes}
-use Rattle.sv_table.proofs.Loops.{Succeeds, rest_at, kept_front}
+use Rattle.sv_table.proofs.ItemLoops.{Succeeds, rest_at, kept_front}
 use Rattle.sv_table.proofs.decoding.rows_of.Given as goal
 
 abbrev pub invariant-loop-i : goal.invariant-loop-i

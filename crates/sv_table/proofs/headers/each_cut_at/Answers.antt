@@ -2,7 +2,7 @@ use Rattle.std.proofs.Common.{[], ◌∷◌, length, arith, ap, ◌∙◌}
 use Rattle.std.proofs.lemmas.List.{length-append}
 use Rattle.std.proofs.lemmas.Result.{err_from_is_err_and}
 use Rattle.sv_table.specs.Reading.{each_cut_at}
-use Rattle.sv_table.proofs.Loops.{cuts_go, cuts_end, cuts_done}
+use Rattle.sv_table.proofs.ItemLoops.{cuts_go, cuts_end, cuts_done}
 use Rattle.sv_table.proofs.headers.each_cut_at.Goals as goal
 
 pub returns-in_err-cut : goal.returns-in_err-cut

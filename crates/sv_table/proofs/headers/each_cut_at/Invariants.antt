@@ -1,6 +1,6 @@
 use Rattle.std.proofs.Common.{◌≡◌, ◌-◌, length}
 use Rattle.sv_table.specs.Reading.{each_cut_at}
-use Rattle.sv_table.proofs.Loops.{with_front}
+use Rattle.sv_table.proofs.ItemLoops.{with_front}
 use Rattle.sv_table.proofs.headers.each_cut_at.Given as goal
 
 abbrev pub invariant-loop : goal.invariant-loop

@@ -1,6 +1,6 @@
 use Rattle.sv_table.specs.Views.{header_is}
-use Rattle.sv_table.proofs.Stops.{within}
-use Rattle.sv_table.proofs.Whole.{bad_file, head_is}
+use Rattle.sv_table.proofs.BadFields.{within}
+use Rattle.sv_table.proofs.WholeFiles.{bad_file, head_is}
 use Rattle.sv_table.proofs.heads.check.Goals as goal
 
 pub overflow_sub-result : goal.overflow_sub-result

@@ -2,7 +2,7 @@ use Rattle.sv_table.specs.Views.{header_is}
 use Rattle.std.proofs.Common.{ℕ, List, ap, ◌∙◌}
 use Rattle.sv_table.specs.Lookups.{hit_op, found_in}
 use Rattle.sv_table.specs.Reading.{entries_in}
-use Rattle.sv_table.proofs.Whole.{has_header, has_rows, found_is}
+use Rattle.sv_table.proofs.WholeFiles.{has_header, has_rows, found_is}
 use Rattle.sv_table.proofs.lookups.find_in.Goals as goal
 
 pub unreachable-requires : goal.unreachable-requires

@@ -3,7 +3,7 @@ use Rattle.sv_model.specs.TableTextFields.{Seen}
 use Rattle.sv_table.specs.Reading.{Entry, entries_in}
 use Rattle.sv_table.specs.Views.{header_is, shape_is, entry_is}
 use Rattle.sv_table.specs.Lookups.{found_in}
-use Rattle.sv_table.proofs.Loops.{Succeeds, rest_at, begins, never_fails, goes_on, find_goes, find_hits, find_ends, row_facts, within_cuts}
+use Rattle.sv_table.proofs.ItemLoops.{Succeeds, rest_at, begins, never_fails, goes_on, find_goes, find_hits, find_ends, row_facts, within_cuts}
 use Rattle.sv_table.proofs.lookups.find_row.Goals as goal
 
 pub loop-i-init : goal.loop-i-init

@@ -4,7 +4,7 @@ use Rattle.sv_table.specs.Lookups.{found_in}
 use Rattle.sv_table.specs.Reading.{entries_in}
 use Rattle.sv_table.specs.Views.{header_is, shape_is}
 use Rattle.sv_table.proofs.OneField.{IsBytes}
-use Rattle.sv_table.proofs.Loops.{Succeeds, rest_at}
+use Rattle.sv_table.proofs.ItemLoops.{Succeeds, rest_at}
 use Rattle.sv_table.proofs.lookups.find_row.Given as goal
 
 abbrev pub invariant-loop-i : goal.invariant-loop-i

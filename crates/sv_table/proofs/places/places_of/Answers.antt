@@ -5,7 +5,7 @@ use Rattle.sv_table.specs.Places.{ArePlaces}
 use Rattle.sv_table.specs.Reading.{Entry, entries_in, entry_at, kept_in, kept_of}
 use Rattle.sv_table.specs.Views.{header_is, shape_is, entry_is}
 use Rattle.sv_table.proofs.FileText.{same_rows}
-use Rattle.sv_table.proofs.Loops.{Succeeds, rest_at, never_fails, goes_on, kept_front, kept_goes, kept_done, row_facts}
+use Rattle.sv_table.proofs.ItemLoops.{Succeeds, rest_at, never_fails, goes_on, kept_front, kept_goes, kept_done, row_facts}
 use Rattle.sv_table.proofs.RowText.{entry_text}
 use Rattle.sv_table.proofs.PlaceText.{rests_more, stands, are_more}
 use Rattle.sv_table.proofs.places.places_of.Goals as goal

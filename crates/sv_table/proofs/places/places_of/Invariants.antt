@@ -5,7 +5,7 @@ use Rattle.sv_table.specs.Places.{ArePlaces}
 use Rattle.sv_table.specs.Reading.{entries_in, kept_in}
 use Rattle.sv_table.specs.Views.{header_is, shape_is}
 use Rattle.sv_table.proofs.OneField.{IsBytes}
-use Rattle.sv_table.proofs.Loops.{Succeeds, rest_at, kept_front}
+use Rattle.sv_table.proofs.ItemLoops.{Succeeds, rest_at, kept_front}
 use Rattle.sv_table.proofs.PlaceText.{Rests}
 use Rattle.sv_table.proofs.places.places_of.Given as goal
 

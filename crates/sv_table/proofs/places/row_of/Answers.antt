@@ -1,7 +1,7 @@
 use Rattle.std.proofs.Common.{ℕ, List, Ok, ◌≡◌, subst, drop, arith}
 use Rattle.sv_table.specs.Reading.{entry_at}
 use Rattle.sv_table.specs.Views.{header_is, shape_is, seen_is, entry_is}
-use Rattle.sv_table.proofs.Loops.{row_facts, within_cuts}
+use Rattle.sv_table.proofs.ItemLoops.{row_facts, within_cuts}
 use Rattle.sv_table.proofs.PlaceText.{bytes_from, slice_rest}
 use Rattle.sv_table.proofs.places.row_of.Goals as goal
 

@@ -1,6 +1,6 @@
 use Rattle.std.proofs.Common.{sym, ◌∙◌, arith}
 use Rattle.sv_table.specs.Views.{header_is, seen_is}
-use Rattle.sv_table.proofs.Whole.{file_reads, table_is}
+use Rattle.sv_table.proofs.WholeFiles.{file_reads, table_is}
 use Rattle.sv_table.proofs.walks.file_at.Goals as goal
 
 pub returns-clause-table : goal.returns-clause-table

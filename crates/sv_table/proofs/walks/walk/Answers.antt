@@ -3,7 +3,7 @@ use Rattle.std.proofs.lemmas.Result.{err_from_is_err_and}
 use Rattle.sv_model.specs.TableTextFields.{Seen, start}
 use Rattle.sv_table.specs.Reading.{walked, entries_in}
 use Rattle.sv_table.specs.Views.{header_is, shape_is, entry_is}
-use Rattle.sv_table.proofs.Loops.{rest_at, begins, walk_goes, walk_fails, walk_done}
+use Rattle.sv_table.proofs.ItemLoops.{rest_at, begins, walk_goes, walk_fails, walk_done}
 use Rattle.sv_table.proofs.walks.walk.Goals as goal
 
 pub loop-i-init : goal.loop-i-init

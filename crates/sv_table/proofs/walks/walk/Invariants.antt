@@ -2,7 +2,7 @@ use Rattle.std.proofs.Common.{◌≡◌}
 use Rattle.sv_model.specs.TableTextFields.{Seen, start}
 use Rattle.sv_table.specs.Reading.{walked, entries_in}
 use Rattle.sv_table.specs.Views.{header_is, shape_is}
-use Rattle.sv_table.proofs.Loops.{rest_at}
+use Rattle.sv_table.proofs.ItemLoops.{rest_at}
 use Rattle.sv_table.proofs.walks.walk.Given as goal
 
 abbrev pub invariant-loop-i : goal.invariant-loop-i

@@ -1,6 +1,6 @@
 use Rattle.std.proofs.Common.{◌≡◌, ◌++◌, ◌∷◌, [], true, not, cond, Bool, is_ok, sym, ap, subst, ◌∙◌}
 use Rattle.sv_model.specs.Families.{AreFamilies}
-use Rattle.sv_family.proofs.Lawful.{lawful_create}
+use Rattle.sv_family.proofs.LawfulFamilies.{lawful_create}
 use Rattle.sv_family.proofs.families.Families.create.Goals as goal
 
 where_ok : {A : Type 0} (ok : Bool) (x y z : A) → z ≡ cond ok x y → ok ≡ true → z ≡ x

@@ -1,8 +1,8 @@
 use Rattle.std.proofs.Common.{ap, ◌∙◌, Some}
 use Rattle.sv_model.specs.Families.{IsOwnStanding}
 use Rattle.sv_family.specs.Calls.{as_dropped}
-use Rattle.sv_family.proofs.Changing.{WasRead, changed_is, lawful_drop, own_standing}
-use Rattle.sv_family.proofs.Seeking.{dropped_due_next, dropped_not_due_next}
+use Rattle.sv_family.proofs.ChangedFamilies.{WasRead, changed_is, lawful_drop, own_standing}
+use Rattle.sv_family.proofs.SoughtFamilies.{dropped_due_next, dropped_not_due_next}
 use Rattle.sv_family.proofs.families.Families.drop_family.Goals as goal
 
 pub returns-then-is_dropped-clause-refused : goal.returns-then-is_dropped-clause-refused

@@ -1,5 +1,5 @@
 use Rattle.std.proofs.Common.{ap, ◌∙◌, Some}
-use Rattle.sv_family.proofs.Seeking.{dropped_due_next, dropped_not_due_next}
+use Rattle.sv_family.proofs.SoughtFamilies.{dropped_due_next, dropped_not_due_next}
 use Rattle.sv_family.proofs.families.Families.find_undropped.Goals as goal
 
 pub returns-then-is_dropped-clause-refused : goal.returns-then-is_dropped-clause-refused

@@ -1,7 +1,7 @@
 use Rattle.std.proofs.Common.{true, ◌∙◌, sym}
 use Rattle.sv_model.specs.Families.{IsStanding}
 use Rattle.sv_family.specs.Calls.{with_handle}
-use Rattle.sv_family.proofs.Changing.{WasRead, changed_is, lawful_open}
+use Rattle.sv_family.proofs.ChangedFamilies.{WasRead, changed_is, lawful_open}
 use Rattle.sv_family.proofs.OpenedFamilies.{fresh_to}
 use Rattle.sv_family.proofs.families.Families.open_family.Goals as goal
 

@@ -1,7 +1,7 @@
 use Rattle.std.proofs.Common.{false}
 use Rattle.sv_model.specs.Families.{IsOwn}
 use Rattle.sv_family.specs.Calls.{with_handle}
-use Rattle.sv_family.proofs.Changing.{WasRead, changed_is, lawful_release}
+use Rattle.sv_family.proofs.ChangedFamilies.{WasRead, changed_is, lawful_release}
 use Rattle.sv_family.proofs.families.Families.release.Goals as goal
 
 was_read : (c : goal.After-self-1) →

@@ -1,7 +1,7 @@
 use Rattle.std.proofs.Common.{set, sym, subst}
 use Rattle.sv_model.specs.Families.{AreFamilies, IsOwnStanding}
 use Rattle.sv_family.specs.Calls.{IsChanged, as_set}
-use Rattle.sv_family.proofs.Changing.{WasRead, changed_is, lawful_option, set_in_range}
+use Rattle.sv_family.proofs.ChangedFamilies.{WasRead, changed_is, lawful_option, set_in_range}
 use Rattle.sv_family.proofs.families.Families.set_option.Goals as goal
 
 was_read : (c : goal.After-self-1) →

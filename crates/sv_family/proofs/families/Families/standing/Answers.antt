@@ -1,5 +1,5 @@
 use Rattle.std.proofs.Common.{is_some, ap, ◌∙◌}
-use Rattle.sv_family.proofs.Seeking.{standing_at, standing_exact}
+use Rattle.sv_family.proofs.SoughtFamilies.{standing_at, standing_exact}
 use Rattle.sv_family.proofs.families.Families.standing.Goals as goal
 
 pub returns-in_err-at-clause-exact : goal.returns-in_err-at-clause-exact

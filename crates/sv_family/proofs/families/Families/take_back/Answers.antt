@@ -1,4 +1,4 @@
-use Rattle.sv_family.proofs.Lawful.{lawful_pop}
+use Rattle.sv_family.proofs.LawfulFamilies.{lawful_pop}
 use Rattle.sv_family.proofs.families.Families.take_back.Goals as goal
 
 pub invariant_of-self : goal.invariant_of-self

@@ -2,7 +2,7 @@ use Rattle.std.proofs.Common.{arith, subst}
 use Rattle.sv_model.specs.Books.{FileRegister}
 use Rattle.sv_model.specs.declared.records.FileStatus.TheVariants.{Obsolete}
 use Rattle.sv_model.specs.Numbers.{AreInOrder, IsRegistered}
-use Rattle.sv_files.proofs.Answered.{ok-map}
+use Rattle.sv_files.proofs.AnswerLaws.{ok-map}
 use Rattle.sv_files.proofs.BookLaws.{in-order-map}
 use Rattle.sv_files.proofs.NumbersLaws.{registered-below}
 use Rattle.sv_files.proofs.book.FileBook.obsolete.Goals as goal

@@ -1,7 +1,7 @@
 use Rattle.std.proofs.Common.{◌<◌, ◌↔◌, Bool, IsTrue, List, sym, subst}
 use Rattle.sv_model.specs.Numbers.{registered}
 use Rattle.sv_model.specs.declared.records.RegisteredFile.{RegisteredFile}
-use Rattle.sv_files.proofs.Keeping.{is_registered}
+use Rattle.sv_files.proofs.KeptLaws.{is_registered}
 use Rattle.sv_files.proofs.numbers.Numbers.is_registered.Goals as goal
 
 pub returns : goal.returns

@@ -7,7 +7,7 @@ use Rattle.sv_model.specs.Numbers.{IsMarked, registered}
 use Rattle.sv_model.specs.Summaries.{is_obsolete}
 use Rattle.sv_files.specs.Kept.{AreKept}
 use Rattle.sv_files.proofs.Registered.{with_status}
-use Rattle.sv_files.proofs.Keeping.{has-place, read-is, was-in, kept_mark, room-mark, is-set, IsSet}
+use Rattle.sv_files.proofs.KeptLaws.{has-place, read-is, was-in, kept_mark, room-mark, is-set, IsSet}
 use Rattle.sv_files.proofs.numbers.Numbers.mark.Goals as goal
 
 pub position-at-requires : goal.position-at-requires

@@ -2,8 +2,8 @@ use Rattle.std.proofs.Common.{◌<◌, List, take, arith, sym, subst}
 use Rattle.sv_model.specs.declared.records.RegisteredFile.{RegisteredFile}
 use Rattle.sv_model.specs.declared.records.FileStatus.TheVariants.{Obsolete}
 use Rattle.sv_model.specs.Numbers.{AreInOrder, IsRegistered}
-use Rattle.sv_files.proofs.Rising.{take_rising, first-in}
-use Rattle.sv_files.proofs.Answered.{ok-map, err-map}
+use Rattle.sv_files.proofs.AscendingNumbers.{take_rising, first-in}
+use Rattle.sv_files.proofs.AnswerLaws.{ok-map, err-map}
 use Rattle.sv_files.proofs.numbers.Numbers.obsolete_below.Goals as goal
 
 below : (c : goal.After-first) → AreInOrder (λ n. IsRegistered c.args.self.now n Obsolete × (n < c.args.bound)) (take c.count_below-count.result c.self.inside.obsolete.items)

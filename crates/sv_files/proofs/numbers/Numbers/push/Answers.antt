@@ -8,9 +8,9 @@ use Rattle.sv_model.specs.Lists.{In}
 use Rattle.sv_model.specs.Numbers.{registered}
 use Rattle.sv_model.specs.Summaries.{is_obsolete}
 use Rattle.sv_files.specs.Kept.{AreKept}
-use Rattle.sv_files.proofs.Answered.{ok_holds}
+use Rattle.sv_files.proofs.AnswerLaws.{ok_holds}
 use Rattle.sv_files.proofs.Registered.{bit-le, count-le, registered-some}
-use Rattle.sv_files.proofs.Keeping.{kept_push, is-set, IsSet}
+use Rattle.sv_files.proofs.KeptLaws.{kept_push, is-set, IsSet}
 use Rattle.sv_files.proofs.numbers.Numbers.push.Goals as goal
 
 pub overflow_sub-room : goal.overflow_sub-room

@@ -2,7 +2,7 @@ use Rattle.std.proofs.Common.{◌≡◌, ◌<◌, suc, Some, None, List, ◌⊎�
 use Rattle.std.proofs.lemmas.Option.{slice_get_within}
 use Rattle.sv_model.specs.declared.records.RegisteredFile.{RegisteredFile}
 use Rattle.sv_model.specs.Numbers.{IsRegistered, registered}
-use Rattle.sv_files.proofs.Keeping.{has-place, read-is}
+use Rattle.sv_files.proofs.KeptLaws.{has-place, read-is}
 use Rattle.sv_files.proofs.numbers.Numbers.status.Goals as goal
 
 pub index-requires : goal.index-requires

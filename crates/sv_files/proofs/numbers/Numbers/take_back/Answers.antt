@@ -7,7 +7,7 @@ use Rattle.sv_model.specs.Lists.{In}
 use Rattle.sv_model.specs.Summaries.{is_obsolete}
 use Rattle.sv_model.proofs.Registers.{entry-new}
 use Rattle.sv_files.specs.Kept.{AreKept}
-use Rattle.sv_files.proofs.Keeping.{was-in, kept_front, is-set, IsSet}
+use Rattle.sv_files.proofs.KeptLaws.{was-in, kept_front, is-set, IsSet}
 use Rattle.sv_files.proofs.numbers.Numbers.take_back.Goals as goal
 
 pub set-requires-clause-was : goal.set-requires-clause-was

@@ -3,7 +3,7 @@ use Rattle.std.proofs.Common.{◌≡◌, ◌<◌, ◌++◌, ◌∷◌, [], List,
 use Rattle.sv_model.specs.declared.writes.Row.{Row}
 use Rattle.sv_model.specs.declared.limits.TheConstants.{MAX_ROWS}
 use Rattle.sv_memtable.specs.Index.{IsIndexed}
-use Rattle.sv_memtable.proofs.Indexing.{indexed-push, indexed-same}
+use Rattle.sv_memtable.proofs.IndexLaws.{indexed-push, indexed-same}
 use Rattle.sv_memtable.proofs.cells.MemCell.add.Goals as goal
 
 pub invariant_of-self-in_err-note : goal.invariant_of-self-in_err-note

@@ -5,7 +5,7 @@ use Rattle.sv_model.specs.declared.writes.Row.{Row}
 use Rattle.sv_model.specs.Journal.{newest_op, newest_row}
 use Rattle.sv_model.specs.Registers.{entry}
 use Rattle.sv_memtable.specs.Index.{numbers_of_key}
-use Rattle.sv_memtable.proofs.Indexing.{led, led_nowhere, found_last, last_within, none_at_all}
+use Rattle.sv_memtable.proofs.IndexLaws.{led, led_nowhere, found_last, last_within, none_at_all}
 use Rattle.sv_memtable.proofs.cells.MemCell.find.Goals as goal
 
 numbers : (c : goal.After-newest) → numbers_of_key c.args.key.now c.self.inside.rows.items ≡ c.newest.ensures.0 ++ c.newest.result ∷ []

@@ -6,7 +6,7 @@ use Rattle.sv_model.specs.declared.writes.Row.{Row}
 use Rattle.sv_model.specs.Journal.{newest_op, newest_row}
 use Rattle.sv_model.specs.Registers.{entry}
 use Rattle.sv_memtable.specs.Index.{numbers_of_key}
-use Rattle.sv_memtable.proofs.Indexing.{IsOfRow, led, led_nowhere, numbers_rise, found_within, found_upto, none_upto}
+use Rattle.sv_memtable.proofs.IndexLaws.{IsOfRow, led, led_nowhere, numbers_rise, found_within, found_upto, none_upto}
 use Rattle.sv_memtable.proofs.cells.MemCell.find_at.Goals as goal
 
 pub newest_upto-requires : goal.newest_upto-requires

@@ -1,7 +1,7 @@
 use Rattle.std.proofs.Common.{refl}
 use Rattle.sv_model.specs.Named.{version_live}
 use Rattle.sv_version.specs.Changes.{live_version}
-use Rattle.sv_objects.proofs.Undoing.{last-live}
+use Rattle.sv_objects.proofs.LastMade.{last-live}
 use Rattle.sv_objects.proofs.objects.Objects.make_compacted.Goals as goal
 
 pub take_back-requires : goal.take_back-requires

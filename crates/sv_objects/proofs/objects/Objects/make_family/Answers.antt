@@ -6,7 +6,7 @@ use Rattle.sv_version.specs.Changes.{live_version}
 use Rattle.sv_laws.proofs.Rooms.{cell-made}
 use Rattle.sv_objects.specs.Makings.{RefMade, first_of}
 use Rattle.sv_objects.specs.Shown.{shown}
-use Rattle.sv_objects.proofs.Undoing.{cell-read, last-live}
+use Rattle.sv_objects.proofs.LastMade.{cell-read, last-live}
 use Rattle.sv_objects.proofs.objects.Objects.make_family.Goals as goal
 
 pub take_back-requires-in-Err : goal.take_back-requires-in-Err

@@ -3,7 +3,7 @@ use Rattle.sv_model.specs.Named.{list_live, version_live}
 use Rattle.sv_imm.specs.Changes.{live_list}
 use Rattle.sv_version.specs.Changes.{live_version}
 use Rattle.sv_objects.specs.Makings.{RefMade}
-use Rattle.sv_objects.proofs.Undoing.{last-live, taken_back}
+use Rattle.sv_objects.proofs.LastMade.{last-live, taken_back}
 use Rattle.sv_objects.proofs.objects.Objects.make_flushed.Goals as goal
 
 pub take_back-requires : goal.take_back-requires

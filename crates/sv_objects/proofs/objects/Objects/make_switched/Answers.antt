@@ -3,7 +3,7 @@ use Rattle.sv_model.specs.Named.{list_live}
 use Rattle.sv_imm.specs.Changes.{live_list}
 use Rattle.sv_laws.proofs.Rooms.{cell-made}
 use Rattle.sv_objects.specs.Makings.{RefMade}
-use Rattle.sv_objects.proofs.Undoing.{cell-read, last-live, taken_back}
+use Rattle.sv_objects.proofs.LastMade.{cell-read, last-live, taken_back}
 use Rattle.sv_objects.proofs.objects.Objects.make_switched.Goals as goal
 
 pub take_back-requires-in-Err : goal.take_back-requires-in-Err

@@ -17,4 +17,4 @@ returns c =
     let writes : c.len.result ≡ length (of_family 0 p.journal.items) = count ∙ sym (ap length (kept_writes p c.requires)) in
     let files : c.in_ok-files.files ≡ numbers_of (files_of p.versions (length p.versions)) =
     c.in_ok-files.ensures ∙ ap numbers_of (c.files.ensures.value lives.it lives.at ∙ sym (kept_files p c.requires)) in
-    λ i. record { id = 0; name = c.in_ok-name.ensures i; dropped = false; writes = writes i; files = files i }
+    λ i. record { id = 0; name = c.default_name-name.ensures i; dropped = false; writes = writes i; files = files i }

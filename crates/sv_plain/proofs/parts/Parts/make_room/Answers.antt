@@ -2,7 +2,7 @@
 use Rattle.std.proofs.Common.{[], ◌∷◌, Some, None, cond, sym, ap, subst, ◌∙◌}
 use Rattle.sv_model.specs.declared.Refusal.TheVariants.{Stalled}
 use Rattle.sv_model.specs.Refusals.{first_due}
-use Rattle.sv_model.proofs.Refusing.{is_due-next}
+use Rattle.sv_model.proofs.RefusalLaws.{is_due-next}
 use Rattle.sv_cells.specs.Calls.{memtables_refusal}
 use Rattle.sv_registry.specs.Calls.{make_refusal}
 use Rattle.sv_plain.specs.Due.{WriteMoment, stall_refusal}

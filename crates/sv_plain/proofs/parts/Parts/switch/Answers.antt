@@ -4,7 +4,7 @@ use Rattle.sv_model.specs.declared.MemtableList.{MemtableList}
 use Rattle.sv_model.specs.declared.SuperVersion.{SuperVersion}
 use Rattle.sv_model.specs.Cells.{Cell}
 use Rattle.sv_model.specs.Registers.{entry}
-use Rattle.sv_model.proofs.Refusing.{none_due}
+use Rattle.sv_model.proofs.RefusalLaws.{none_due}
 use Rattle.sv_model.proofs.Registers.{entry-old}
 use Rattle.sv_plain.specs.declared.immutables.Immutable.{Immutable}
 use Rattle.sv_cells.specs.Calls.{memtables_refusal}

@@ -1,7 +1,8 @@
 use Rattle.std.proofs.Common.{ap, arith}
 use Rattle.sv_model.specs.Lists.{at}
-use Rattle.sv_slots.proofs.CallCarrying.{carries_taken, lane_stands, seated}
-use Rattle.sv_slots.proofs.Carrying.{carries_few, carry}
+use Rattle.sv_slots.proofs.CarriedByCalls.{carries_taken, lane_stands, seated}
+use Rattle.sv_slots.proofs.CarriedBySteps.{carries_few, carry}
+use Rattle.sv_slots.proofs.ToldCounts.{tells_stand, told_of}
 use Rattle.sv_slots.proofs.table.Core.borrow_locked.Goals as goal
 
 pub insert-requires : goal.insert-requires
@@ -14,6 +15,7 @@ invariant_of-seat g c =
     let e = c.borrow_locked_at.ensures in
     record {
       is_lane = lane_stands v n.0 s.lane (ap seated e.view) s.is_lane;
+      tells = tells_stand v n.0 s.counts (ap told_of e.view) s.tells;
       carried = carries_taken v n.0 s.seat.me.1 n.1 s.out.items c.args.family c.family.inside.0 s.lane s.carried s.is_lane
           c.family.view_is c.requires.family c.slot_home_of.result c.args.fresh.pack
           (at 0 v.known.seen c.family.inside.0) c.insert.new.self.items c.requires.free.0 (ap carry e.view) e.carried

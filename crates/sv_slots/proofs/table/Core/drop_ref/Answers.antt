@@ -1,6 +1,7 @@
 use Rattle.std.proofs.Common.{ap, ◌∙◌}
-use Rattle.sv_slots.proofs.CallCarrying.{beside, carries_desk, lane_stands, lowers-count, seated}
+use Rattle.sv_slots.proofs.CarriedByCalls.{beside, carries_desk, lane_stands, lowers-count, seated}
 use Rattle.sv_rule.specs.Tasks.{some_count}
+use Rattle.sv_slots.proofs.ToldCounts.{tells_stand, told_of}
 use Rattle.sv_slots.proofs.table.Core.drop_ref.Goals as goal
 
 pub invariant_of-seat : goal.invariant_of-seat
@@ -9,6 +10,7 @@ invariant_of-seat g c =
     let e = u.ensures.dropped.is in
     record {
       is_lane = lane_stands v n.0 s.lane (ap (λ z. seated z.0) e) s.is_lane;
+      tells = tells_stand v n.0 s.counts (ap (λ z. told_of z.0) e) s.tells;
       carried = carries_desk v n.0 s.seat.me.1 n.1 s.out.items s.carried
           (ap (λ z. some_count z.0.locks.db) e ∙ lowers-count c.word_of.result v.locks.db) (ap (λ z. beside z.0) e)
           (ap (λ z. z.1) e);

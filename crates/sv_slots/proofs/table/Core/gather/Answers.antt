@@ -1,6 +1,6 @@
 use Rattle.std.proofs.Common.{arith}
 use Rattle.sv_rule_seats.proofs.SeatJoins.{joins}
-use Rattle.sv_slots.proofs.CallCarrying.{idle_none}
+use Rattle.sv_slots.proofs.CarriedByCalls.{idle_none}
 use Rattle.sv_slots.proofs.table.Core.gather.Goals as goal
 
 pub join_seat-requires : goal.join_seat-requires

@@ -1,9 +1,10 @@
 use Rattle.std.proofs.Common.{ap, subst, sym, ◌∙◌}
 use Rattle.sv_rule.specs.LockPlays.{MayGiveCell}
 use Rattle.sv_rule.specs.Views.{LaneView}
-use Rattle.sv_slots.proofs.CallCarrying.{lane_stands, seated}
-use Rattle.sv_slots.proofs.LockCarrying.{gives_cell, has_cell}
+use Rattle.sv_slots.proofs.CarriedByCalls.{lane_stands, seated}
+use Rattle.sv_slots.proofs.CarriedByLocks.{gives_cell, has_cell}
 use Rattle.sv_slots.specs.Carried.{ahead}
+use Rattle.sv_slots.proofs.ToldCounts.{tells_stand, told_of}
 use Rattle.sv_slots.proofs.table.Core.give_cell.Goals as goal
 
 pub bring-requires : goal.bring-requires
@@ -19,6 +20,7 @@ invariant_of-seat g c =
     let was = c.bring.ensures.same.2 in
     record {
       is_lane = lane_stands v n.0 s.lane (ap (λ z. seated z.0) e) s.is_lane;
+      tells = tells_stand v n.0 s.counts (ap (λ z. told_of z.0) e) s.tells;
       carried = gives_cell v n.0 s.seat.me.1 n.1 s.out.items c.remove.new.self.items s.carried c.args.number g.J.Cuts.family g.J.Cuts.cut (g.P.Parts.cell c.args.cell) (ap (λ z. z.0) e)
           (ap (λ (z : LaneView). z.locks.cell) was ∙ c.requires.lock.cell) (ap (λ z. ahead z s.out.items) (sym c.cell_word_of.ensures) ∙ c.bring.ensures.first) (ap (λ z. z.1) e) c.remove.ensures.items;
     }

@@ -4,9 +4,10 @@ use Rattle.sv_model.specs.Lists.{at}
 use Rattle.sv_rule.specs.Table.{slot_of}
 use Rattle.sv_rule.specs.Views.{away}
 use Rattle.sv_slots.specs.Borrows.{IsLooked, word_of}
-use Rattle.sv_slots.proofs.CallCarrying.{lane_stands, seated}
-use Rattle.sv_slots.proofs.Carrying.{carries_still, carry}
+use Rattle.sv_slots.proofs.CarriedByCalls.{lane_stands, seated}
+use Rattle.sv_slots.proofs.CarriedBySteps.{carries_still, carry}
 use Rattle.sv_slots.proofs.LookSteps.{checked_same, none_pos, sees, some_of, some_of_is, some_of_pos, some_pos}
+use Rattle.sv_slots.proofs.ToldCounts.{tells_stand, told_of}
 use Rattle.sv_slots.proofs.table.Core.look.Goals as goal
 
 pub invariant_of-seat : goal.invariant_of-seat
@@ -18,6 +19,7 @@ invariant_of-seat g c =
     let view = (sees f u.result m n u.ensures.looked unheld (some_of u.result) (some_of_is u.result) (some_of_pos u.result)).view in
     record {
       is_lane = lane_stands m.0 n.0 s.lane (ap seated view) s.is_lane;
+      tells = tells_stand m.0 n.0 s.counts (ap told_of view) s.tells;
       carried = carries_still m.0 n.0 m.1 n.1 s.out.items f s.carried near
           (ap carry view ∙ (λ i. (
             m.0.locks,

@@ -2,10 +2,11 @@ use Rattle.std.proofs.Common.{ap, arith, subst, sym, ℕ, ◌∙◌}
 use Rattle.sv_rule.specs.Numbers.{NumberOk}
 use Rattle.sv_rule.specs.ReferencePlays.{MayOpen}
 use Rattle.sv_rule.specs.Views.{begun}
-use Rattle.sv_slots.proofs.CallCarrying.{carries_desk, lane_stands}
+use Rattle.sv_slots.proofs.CarriedByCalls.{carries_desk, lane_stands}
 use Rattle.sv_slots.proofs.Installed.{begins, install_carried, install_was, installed_works, is_installed, may_swap}
 use Rattle.sv_slots.specs.Installs.{installed}
 use Rattle.sv_slots.specs.Seats.{bodied}
+use Rattle.sv_slots.proofs.ToldCounts.{tells_stand}
 use Rattle.sv_slots.proofs.table.Core.make_current.Goals as goal
 
 pub open_step-requires-clause-may : goal.open_step-requires-clause-may
@@ -71,5 +72,6 @@ invariant_of-seat g c =
     view in
     record {
       is_lane = lane_stands m.0 n.0 s.lane e.0 s.is_lane;
+      tells = tells_stand m.0 n.0 s.counts e.3 s.tells;
       carried = carries_desk m.0 n.0 m.1 n.1 s.out.items s.carried e.1 e.2 carried;
     }

@@ -2,9 +2,10 @@ use Rattle.std.proofs.Common.{ap, subst, sym, ℕ, ◌∙◌}
 use Rattle.sv_rule.specs.Numbers.{NumberOk}
 use Rattle.sv_rule.specs.RoundPlays.{MayEndCurrent}
 use Rattle.sv_rule.specs.Views.{begun}
-use Rattle.sv_slots.proofs.CallCarrying.{carries_desk, lane_stands}
+use Rattle.sv_slots.proofs.CarriedByCalls.{carries_desk, lane_stands}
 use Rattle.sv_slots.proofs.Installed.{is_retired_now, may_swap_none, retire_carried, retire_was, retired_works}
 use Rattle.sv_slots.specs.Installs.{retired}
+use Rattle.sv_slots.proofs.ToldCounts.{tells_stand}
 use Rattle.sv_slots.proofs.table.Core.no_current.Goals as goal
 
 pub end_step-requires-clause-may : goal.end_step-requires-clause-may
@@ -48,5 +49,6 @@ invariant_of-seat g c =
     may.desk may.has view in
     record {
       is_lane = lane_stands m.0 n.0 s.lane e.0 s.is_lane;
+      tells = tells_stand m.0 n.0 s.counts e.3 s.tells;
       carried = carries_desk m.0 n.0 m.1 n.1 s.out.items s.carried e.1 e.2 carried;
     }

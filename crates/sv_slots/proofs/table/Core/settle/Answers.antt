@@ -1,7 +1,8 @@
 use Rattle.std.proofs.Common.{ap, subst, sym, ℕ}
 use Rattle.sv_rule.specs.ReferencePlays.{MaySettle}
-use Rattle.sv_slots.proofs.CallCarrying.{carries_desk, lane_stands}
+use Rattle.sv_slots.proofs.CarriedByCalls.{carries_desk, lane_stands}
 use Rattle.sv_slots.proofs.Installed.{settled_works}
+use Rattle.sv_slots.proofs.ToldCounts.{tells_stand}
 use Rattle.sv_slots.proofs.table.Core.settle.Goals as goal
 
 pub settle_step-requires-clause-may : goal.settle_step-requires-clause-may
@@ -17,5 +18,6 @@ invariant_of-seat g c =
     n.0 c.requires.may.desk c.requires.may.has (ap (λ z. z.0) t) in
     record {
       is_lane = lane_stands m.0 n.0 s.lane e.0 s.is_lane;
+      tells = tells_stand m.0 n.0 s.counts e.3 s.tells;
       carried = carries_desk m.0 n.0 m.1 n.1 s.out.items s.carried e.1 e.2 (ap (λ z. z.1) t);
     }

@@ -1,7 +1,8 @@
 use Rattle.std.proofs.Common.{false, subst, sym, ℕ}
 use Rattle.sv_rule.specs.SweepPlays.{Sweeps}
-use Rattle.sv_slots.proofs.CallCarrying.{carries_desk, lane_stands}
+use Rattle.sv_slots.proofs.CarriedByCalls.{carries_desk, lane_stands}
 use Rattle.sv_slots.proofs.Installed.{swept_works}
+use Rattle.sv_slots.proofs.ToldCounts.{tells_stand}
 use Rattle.sv_slots.proofs.table.Core.sweep.Goals as goal
 
 pub invariant_of-seat : goal.invariant_of-seat
@@ -12,5 +13,6 @@ invariant_of-seat g c =
     c.sweep_at.ensures.swept in
     record {
       is_lane = lane_stands m.0 n.0 s.lane e.0 s.is_lane;
+      tells = tells_stand m.0 n.0 s.counts e.3 s.tells;
       carried = carries_desk m.0 n.0 m.1 n.1 s.out.items s.carried e.1 e.2 c.sweep_at.ensures.carried;
     }

@@ -19,7 +19,7 @@ use Rattle.sv_state.specs.Views.{books_of}
 use Rattle.sv_state.specs.Writing.{Tells}
 use Rattle.sv_state.proofs.Calls.{follows}
 use Rattle.sv_state.proofs.Closings.{sets-state}
-use Rattle.sv_state.proofs.Endings.{can-of, captured-of, done-body, finish-read, refuses-as}
+use Rattle.sv_state.proofs.Endings.{can-of, captured-of, done-body}
 use Rattle.sv_state.proofs.Finding.{open-kept}
 use Rattle.sv_state.proofs.Finishes.{compacted-law, compacted-ref, done-it, done-open, dropped-read, give-up, given-law, is-compacted, merge-covers, merge-from, not-named, was-pending}
 use Rattle.sv_state.proofs.References.{old-ref}

@@ -4,7 +4,7 @@ use Rattle.sv_model.specs.declared.sv_refs.SvRef.{SvRef}
 use Rattle.sv_model.specs.Books.{Books}
 use Rattle.sv_family.specs.Calls.{new_family}
 use Rattle.sv_laws.specs.NewCurrents.{IsFamilyMade}
-use Rattle.sv_laws.proofs.Growing.{get_within}
+use Rattle.sv_laws.proofs.GrownRegisters.{get_within}
 use Rattle.sv_objects.specs.declared.bodies.Body.{Body}
 use Rattle.sv_objects.specs.Cleanups.{with_objects}
 use Rattle.sv_state.specs.Follows.{Follows}

@@ -3,7 +3,7 @@ use Rattle.sv_model.specs.declared.records.Descriptor.{Descriptor}
 use Rattle.sv_model.specs.declared.records.FileMeta.{FileMeta}
 use Rattle.sv_model.specs.Books.{Books}
 use Rattle.sv_model.specs.Ranges.{reach_of}
-use Rattle.sv_laws.proofs.Growing.{get_within}
+use Rattle.sv_laws.proofs.GrownRegisters.{get_within}
 use Rattle.sv_objects.specs.declared.bodies.Body.{Body}
 use Rattle.sv_state.specs.Capturing.{CanBegin}
 use Rattle.sv_state.specs.Follows.{Follows}

@@ -1,28 +1,25 @@
 use Rattle.std.proofs.Common.{◌+◌, length, Some, None, refl, sym, ap, ◌∙◌, subst}
 use Rattle.sv_model.specs.declared.records.Descriptor.{Descriptor}
 use Rattle.sv_model.specs.declared.records.FileMeta.{FileMeta}
-use Rattle.sv_model.specs.declared.records.SuperVersion.{SuperVersion}
 use Rattle.sv_model.specs.Books.{Books}
 use Rattle.sv_model.specs.Named.{IsLiveList, IsLiveVersion}
 use Rattle.sv_model.specs.declared.records.FileStatus.TheVariants.{Pending}
 use Rattle.sv_model.specs.Numbers.{IsRegistered}
 use Rattle.sv_model.specs.Registers.{entry}
 use Rattle.sv_laws.specs.Captures.{IsGivenUp}
-use Rattle.sv_laws.specs.Installs.{IsOpen}
 use Rattle.sv_laws.specs.NewCurrents.{IsFlushed}
 use Rattle.sv_laws.proofs.OpenFamilies.{list-lives, version-lives}
 use Rattle.sv_objects.specs.declared.bodies.Body.{Body}
 use Rattle.sv_objects.specs.declared.objects.Objects.{Objects}
 use Rattle.sv_objects.specs.Cleanups.{with_objects}
-use Rattle.sv_state.specs.Finishing.{CanFinish}
 use Rattle.sv_state.specs.Follows.{Follows}
-use Rattle.sv_state.specs.Refs.{IsBodyOf, IsState}
+use Rattle.sv_state.specs.Refs.{IsState}
 use Rattle.sv_state.specs.Seen.{StateSeen}
 use Rattle.sv_state.specs.Views.{books_of}
 use Rattle.sv_state.specs.Writing.{Tells}
 use Rattle.sv_state.proofs.Calls.{follows}
 use Rattle.sv_state.proofs.Closings.{sets-state}
-use Rattle.sv_state.proofs.Endings.{can-of, captured-of, done-body, finish-read, refuses-as}
+use Rattle.sv_state.proofs.Endings.{can-of, captured-of, done-body}
 use Rattle.sv_state.proofs.Finding.{open-kept}
 use Rattle.sv_state.proofs.Finishes.{done-it, done-open, dropped-read, few-in-list, flush-joins, flushed-law, flushed-ref, give-up, given-law, is-flushed, list-paired, not-named, was-pending}
 use Rattle.sv_state.proofs.References.{old-ref}

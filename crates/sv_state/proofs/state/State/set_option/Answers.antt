@@ -7,7 +7,7 @@ use Rattle.sv_model.specs.Families.{InRange}
 use Rattle.sv_model.proofs.Registers.{entry-same}
 use Rattle.sv_family.specs.Calls.{with_option}
 use Rattle.sv_laws.specs.NewCurrents.{IsOptionSet}
-use Rattle.sv_laws.proofs.Growing.{get_within}
+use Rattle.sv_laws.proofs.GrownRegisters.{get_within}
 use Rattle.sv_model.proofs.Entries.{some}
 use Rattle.sv_objects.specs.declared.bodies.Body.{Body}
 use Rattle.sv_objects.specs.declared.objects.Objects.{Objects}

@@ -1,5 +1,5 @@
 -- The numbers that are left are the Obsolete ones, ascending.
-use Rattle.std.proofs.Common.{◌≡◌, ap, ◌∙◌}
+use Rattle.std.proofs.Common.{ap, ◌∙◌}
 use Rattle.std.specs.Prelude.{◌&&◌, count_by, is_none}
 use Rattle.sv_model.specs.Summaries.{is_gone, obsolete_of}
 use Rattle.sv_laws.proofs.ObsoleteNumbers.{left_is}

@@ -4,7 +4,7 @@ use Rattle.sv_model.specs.Books.{Books}
 use Rattle.sv_model.specs.Named.{IsLiveList}
 use Rattle.sv_model.specs.Registers.{entry}
 use Rattle.sv_laws.specs.NewCurrents.{IsSwitched}
-use Rattle.sv_laws.proofs.Growing.{get_within}
+use Rattle.sv_laws.proofs.GrownRegisters.{get_within}
 use Rattle.sv_laws.proofs.Needs.{few-members}
 use Rattle.sv_laws.proofs.OpenFamilies.{list-lives}
 use Rattle.sv_objects.specs.declared.bodies.Body.{Body}

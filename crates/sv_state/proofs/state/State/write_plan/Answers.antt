@@ -2,7 +2,7 @@ use Rattle.std.proofs.Common.{◌≡◌, ◌-◌, inr, length, sym, ap, ◌∙�
 use Rattle.std.specs.Prelude.{Ok, Err}
 use Rattle.sv_model.specs.declared.refusals.Refusal.TheVariants.{OutOfMemory}
 use Rattle.sv_model.specs.Books.{Books}
-use Rattle.sv_laws.proofs.Growing.{get_within}
+use Rattle.sv_laws.proofs.GrownRegisters.{get_within}
 use Rattle.sv_objects.specs.declared.bodies.Body.{Body}
 use Rattle.sv_state.specs.Planning.{IsPlanOf, MeantAt, Planned, active_rows, is_switch_due, write_due, write_refusal}
 use Rattle.sv_state.specs.Seen.{StateSeen}

@@ -1,4 +1,4 @@
-use Rattle.std.proofs.Common.{◌<◌, ◌≤◌, ℕ, List, Option, get_or, length, take, subst, sym, arith}
+use Rattle.std.proofs.Common.{◌<◌, ℕ, List, Option, get_or, length, take, subst, sym, arith}
 use Rattle.sv_model.specs.Cells.{Cell}
 use Rattle.sv_store.specs.Cells.{Vacated}
 use Rattle.sv_store.proofs.CellLaws.{vacated-more, vacated-none}

@@ -4,7 +4,7 @@ use Rattle.sv_model.specs.Order.{OrderedBy, key_of_kept, end_of_kept}
 use Rattle.sv_table.specs.Lookups.{IsFoundIn, hit_op, op_upto}
 use Rattle.sv_table.specs.Places.{ArePlaces}
 use Rattle.sv_table.specs.Views.{header_is}
-use Rattle.sv_table.proofs.Whole.{found_by_places}
+use Rattle.sv_table.proofs.WholeFiles.{found_by_places}
 use Rattle.sv_table.proofs.checked.Checked.find.Goals as goal
 
 pub returns : goal.returns

@@ -4,8 +4,8 @@ use Rattle.sv_table.specs.Decoding.{IsTable}
 use Rattle.sv_table.specs.Places.{ArePlaces}
 use Rattle.sv_table.specs.Reading.{entries_in, file_at, kept_in}
 use Rattle.sv_table.specs.Views.{header_is}
-use Rattle.sv_table.proofs.Stops.{within}
-use Rattle.sv_table.proofs.Whole.{bad_file, file_is, indexed}
+use Rattle.sv_table.proofs.BadFields.{within}
+use Rattle.sv_table.proofs.WholeFiles.{bad_file, file_is, indexed}
 use Rattle.sv_table.proofs.checked.Checked.new.Goals as goal
 
 pub overflow_sub-result : goal.overflow_sub-result

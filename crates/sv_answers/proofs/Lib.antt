@@ -1,0 +1,11 @@
+mod FamilyAnswers
+mod GetsAnswers
+mod HandleLemmas
+mod HoldAnswers
+mod LiveAnswers
+mod PutAnswers
+mod ReadAnswers
+mod RefusalCases
+mod ReleaseAnswers
+mod SetAnswers
+mod WriteAnswers

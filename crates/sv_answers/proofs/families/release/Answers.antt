@@ -1,0 +1,13 @@
+use Rattle.std.specs.Prelude.{Ok, Err}
+use Rattle.sv_answers.proofs.ReleaseAnswers.{release-replies}
+use Rattle.sv_answers.proofs.families.release.Goals as goal
+
+pub returns-in-Ok-clause-answered : goal.returns-in-Ok-clause-answered
+returns-in-Ok-clause-answered c told k all =
+    let x = c.in-Ok.ensures in
+    release-replies told c.args.store.now c.release.new.self x.follows c.laws.ensures.rests.stands.sound k all c.args.name.now (Ok tt) x.released x.refused x.kept
+
+pub returns-in-Err-clause-answered : goal.returns-in-Err-clause-answered
+returns-in-Err-clause-answered c told k all =
+    let x = c.in-Err.ensures in
+    release-replies told c.args.store.now c.release.new.self x.follows c.laws.ensures.rests.stands.sound k all c.args.name.now (Err c.in-Err.refusal) x.released x.refused x.kept

@@ -1,0 +1,15 @@
+use Rattle.std.specs.Prelude.{Ok, Err}
+use Rattle.sv_answers.proofs.SetAnswers.{set-replies}
+use Rattle.sv_answers.proofs.options.set.Goals as goal
+
+pub returns-in-Ok-clause-answered : goal.returns-in-Ok-clause-answered
+returns-in-Ok-clause-answered c told k all =
+    let x = c.in-Ok.ensures in
+    set-replies told c.args.store.now c.set.new.self x.follows c.laws.ensures.rests.stands.sound k all c.args.name.now c.args.option c.args.value
+    (Ok c.in-Ok.serial) x.set x.refused x.kept
+
+pub returns-in-Err-clause-answered : goal.returns-in-Err-clause-answered
+returns-in-Err-clause-answered c told k all =
+    let x = c.in-Err.ensures in
+    set-replies told c.args.store.now c.set.new.self x.follows c.laws.ensures.rests.stands.sound k all c.args.name.now c.args.option c.args.value
+    (Err c.in-Err.refusal) x.set x.refused x.kept

@@ -1,0 +1,13 @@
+use Rattle.std.specs.Prelude.{Ok, Err}
+use Rattle.sv_answers.proofs.HoldAnswers.{snap-replies}
+use Rattle.sv_answers.proofs.snapshots.snap.Goals as goal
+
+pub returns-in-Ok-clause-answered : goal.returns-in-Ok-clause-answered
+returns-in-Ok-clause-answered c told k all =
+    let x = c.in-Ok.ensures in
+    snap-replies told c.args.store.now c.snap.new.self x.follows k all (Ok (c.in-Ok.snapshot, c.in-Ok.at)) x.made x.refused x.kept
+
+pub returns-in-Err-clause-answered : goal.returns-in-Err-clause-answered
+returns-in-Err-clause-answered c told k all =
+    let x = c.in-Err.ensures in
+    snap-replies told c.args.store.now c.snap.new.self x.follows k all (Err c.in-Err.refusal) x.made x.refused x.kept

@@ -1,0 +1,30 @@
+use Rattle.std.proofs.Common.{length, ap}
+use Rattle.std.specs.Prelude.{Ok, Err}
+use Rattle.sv_model.specs.declared.writes.Op.TheVariants as op
+use Rattle.sv_script.specs.declared.commands.Command.TheVariants as command
+use Rattle.sv_script.specs.declared.replies.Reply.TheVariants as reply
+use Rattle.sv_answers.proofs.PutAnswers.{put-is, row-free}
+use Rattle.sv_answers.proofs.WriteAnswers.{write-answers}
+use Rattle.sv_answers.proofs.writes.put.Goals as goal
+
+pub returns-in-Ok-put-clause-answered : goal.returns-in-Ok-put-clause-answered
+returns-in-Ok-put-clause-answered c told k all =
+    let name = c.args.name.now in
+    let key = c.args.key.now in
+    let value = c.args.value.now in
+    let free = row-free (length key) (length value) c.in-Ok.ensures.refused in
+    let row = c.in-Ok.ensures.row in
+    write-answers told c.args.store.now c.put.new.self c.laws.ensures.rests.stands.sound c.put.ensures.follows k all
+    (command.Put name key value) name key (op.Put value) reply.Put (put-is told name key value free.0 free.1)
+    (Ok c.in-Ok-put.number) (record { key = c.in-Ok.key; op = op.Put c.in-Ok.value }) row.0 (ap op.Put row.1) c.in-Ok-put.ensures.writes
+
+pub returns-in-Err-put-clause-answered : goal.returns-in-Err-put-clause-answered
+returns-in-Err-put-clause-answered c told k all =
+    let name = c.args.name.now in
+    let key = c.args.key.now in
+    let value = c.args.value.now in
+    let free = row-free (length key) (length value) c.in-Ok.ensures.refused in
+    let row = c.in-Ok.ensures.row in
+    write-answers told c.args.store.now c.put.new.self c.laws.ensures.rests.stands.sound c.put.ensures.follows k all
+    (command.Put name key value) name key (op.Put value) reply.Put (put-is told name key value free.0 free.1)
+    (Err c.in-Err-put.refusal) (record { key = c.in-Ok.key; op = op.Put c.in-Ok.value }) row.0 (ap op.Put row.1) c.in-Err-put.ensures.writes

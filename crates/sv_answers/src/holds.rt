@@ -1,0 +1,32 @@
+// Holds.
+ghost use Rattle.std.specs.Prelude.{Bool};
+ghost use Rattle.sv_script.specs.declared.commands.Command.TheVariants as command;
+ghost use Rattle.sv_state.specs.Follows.{Follows};
+ghost use Rattle.sv_answers.specs.Answered.{IsAnswered};
+
+use sv_script::Reply;
+use sv_store::Store;
+
+/// Answers `hold`.
+pub fn hold(store: &mut Store) -> Reply
+    ensures answered { (told : Bool) → IsAnswered told store.old.books store.new.books command.Hold result }
+    ensures follows { Follows store.old.books store.new.books }
+{
+    store.laws();
+    match store.hold() {
+        Ok(count) => Reply::Hold(count),
+        Err(refusal) => Reply::Refused(refusal),
+    }
+}
+
+/// Answers `unhold`.
+pub fn unhold(store: &mut Store) -> Reply
+    ensures answered { (told : Bool) → IsAnswered told store.old.books store.new.books command.Unhold result }
+    ensures follows { Follows store.old.books store.new.books }
+{
+    store.laws();
+    match store.unhold() {
+        Ok(count) => Reply::Unhold(count),
+        Err(refusal) => Reply::Refused(refusal),
+    }
+}

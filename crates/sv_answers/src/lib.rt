@@ -1,0 +1,19 @@
+//! The answers of the one lane to the commands of a script, over its store: each reply fits the books that its command
+//! leaves, whatever the lane was told before.
+#![tactic(auto)]
+
+mod families;
+mod holds;
+mod listings;
+mod options;
+mod reads;
+mod snapshots;
+mod writes;
+
+pub use families::{create, drop_family, open, release};
+pub use holds::{hold, unhold};
+pub use listings::live;
+pub use options::set;
+pub use reads::{get, gets};
+pub use snapshots::{snap, unsnap};
+pub use writes::{delete, put};

@@ -1,0 +1,5 @@
+pub mod FirstWorld
+pub mod Bodies
+pub mod Cells
+pub mod CachingLane
+pub mod OpenedLanes

@@ -1,0 +1,5 @@
+mod CallLaws
+mod Installs
+mod OutputLaws
+mod Standings
+mod Writings
