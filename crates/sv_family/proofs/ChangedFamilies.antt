@@ -12,10 +12,10 @@ use Rattle.sv_model.specs.declared.refusals.Refusal.TheVariants as refusal
 use Rattle.sv_model.specs.Families.{AreFamilies, HasHandle, InRange, IsOwn, IsOwnStanding, IsStanding, greatest_of}
 use Rattle.sv_model.proofs.Registers.{entry-same, entry-else}
 use Rattle.sv_model.proofs.RefusalLaws.{none_due}
-use Rattle.sv_family.specs.Calls.{IsChanged, as_dropped, with_option, with_handle, as_set}
+use Rattle.sv_family.specs.Calls.{IsChanged, IsGivenUp, as_dropped, with_option, with_handle, without_handles, as_set}
 use Rattle.sv_family.specs.Refused.{change_refusal, has_handle, option_refusal, set_refusal, when}
 use Rattle.sv_family.proofs.SoughtFamilies.{own_known}
-use Rattle.sv_family.proofs.LawfulFamilies.{lawful_set, get_set, some}
+use Rattle.sv_family.proofs.LawfulFamilies.{lawful_set, get_set, none_true, some}
 use Rattle.sv_model.proofs.Basics.{apart_or}
 
 -- the family at the place that was found, as the code reads it there
@@ -129,6 +129,20 @@ module _ (families self : List Family) (n id : ℕ) (r : Family) (h : AreFamilie
   default_stands at e =
       let is : r ≡ h.default.it = some r h.default.it (sym at ∙ ap (slice_get families) e ∙ h.default.at) in
       ap (λ (f : Family). f.dropped) is ∙ h.default.stands
+
+  pub lawful_retire : WasRead IsGivenUp families self n id r → AreFamilies (set families n (without_handles r))
+  lawful_retire w =
+      let at = read_at IsGivenUp families self n id r w in
+      let gone : r.dropped ≡ true = read_is IsGivenUp families self n id r w in
+      lawful_set families n r (without_handles r) h (record {
+        at = at;
+        name_is = refl;
+        dropped = λ e. e;
+        meant = λ k g z held. absurd (none_true 32 k held);
+        options = h.options n r at;
+        lanes = refl;
+        default = λ e. absurd (let clash : true ≡ false = sym gone ∙ default_stands at e in cc);
+      })
 
   module _ (lane : ℕ) (name : List ℕ) where
     pub lawful_release : WasRead (IsOwn lane name) families self n id r → 0 < id →

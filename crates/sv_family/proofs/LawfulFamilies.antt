@@ -107,7 +107,7 @@ first_in_range : InRange first_options
 first_in_range =
     record { rows_least = omega arith; rows_most = omega arith; lists_least = omega arith; lists_most = omega arith }
 
-none_true : (n lane : ℕ) → slice_get (replicate n false) lane ≡ Some true → ⊥
+pub none_true : (n lane : ℕ) → slice_get (replicate n false) lane ≡ Some true → ⊥
 none_true zero lane h = let clash : None ≡ Some true = h in cc
 none_true (suc n) zero h = let clash : Some false ≡ Some true = h in cc
 none_true (suc n) (suc lane) h = none_true n lane h

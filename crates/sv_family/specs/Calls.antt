@@ -48,3 +48,11 @@ with_option MaxImmutable value o = record o { max_immutable = value }
 
 abbrev pub as_set : OptionName → ℕ → Family → Family
 as_set option value f = record f { options = with_option option value f.options }
+
+-- the family is dropped
+abbrev pub IsGivenUp : Family → Type 0
+IsGivenUp f = f.dropped ≡ true
+
+-- no lane has a handle of it
+abbrev pub without_handles : Family → Family
+without_handles f = record f { handles = replicate MAX_LANES false }

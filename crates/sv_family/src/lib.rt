@@ -1,6 +1,7 @@
 //! The column families: their names and options, which are dropped, and which lane has a handle of which.
 #![tactic(auto)]
 
+mod closing;
 mod families;
 mod making;
 mod openings;

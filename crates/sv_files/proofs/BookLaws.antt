@@ -9,7 +9,7 @@ use Rattle.sv_model.specs.Lists.{In}
 use Rattle.sv_model.specs.Numbers.{AreInOrder, FilesStand, IsReady, least_captured, IsMarked, IsRegistered, MarksOnly, NumbersStand, captures}
 use Rattle.sv_model.proofs.Lists.{total-push}
 use Rattle.sv_files.specs.Kept.{IsFileBook}
-use Rattle.sv_files.specs.Calls.{IsTaken, Settles, captured_for, grab, opened}
+use Rattle.sv_files.specs.Calls.{IsTaken, Settles, captured_for, grab, opened, without_holds}
 use Rattle.sv_files.proofs.GrabLaws.{captures-grab, numbers-grabbed}
 use Rattle.sv_files.proofs.Registered.{some_is, status-is}
 use Rattle.sv_files.proofs.NumbersLaws.{below-bound, fresh, marked-was, marked-captures, numbers-regraded, numbers-settled, numbers-captured, settled-at, settled_only}
@@ -33,6 +33,11 @@ ready-is r self bound n view_is bound_is = (
 )
 
 -- ---- no number registered
+replicate-is : (n i x y : ℕ) → slice_get (replicate n x) i ≡ Some y → y ≡ x
+replicate-is zero i x y at = absurd (cc)
+replicate-is (suc n) zero x y at = some_is y x (sym at)
+replicate-is (suc n) (suc i) x y at = replicate-is n i x y at
+
 pub first-book : (next : ℕ) (numbers : List RegisteredFile) → NumbersStand numbers (replicate 16 None) next → captures numbers ≤ 1048576 → FilesStand (opened next numbers)
 first-book next numbers stand few = record {
   numbers = stand;
@@ -42,13 +47,23 @@ first-book next numbers stand few = record {
   holds = λ lane count at. (let e = replicate-is 32 lane 0 count at in omega arith);
   jobs = omega arith;
 }
-  where
-    replicate-is : (n i x y : ℕ) → slice_get (replicate n x) i ≡ Some y → y ≡ x
-    replicate-is zero i x y at = absurd (cc)
-    replicate-is (suc n) zero x y at = some_is y x (sym at)
-    replicate-is (suc n) (suc i) x y at = replicate-is n i x y at
+
+-- all holds end
+pub none-held : (b : FileRegister) (made : ℕ) → IsFileBook b made → IsFileBook (without_holds b) made
+none-held b made h = record {
+  laws = record {
+    numbers = h.laws.numbers;
+    few = h.laws.few;
+    families = h.laws.families;
+    lanes = refl;
+    holds = λ lane count at. (let e = replicate-is 32 lane 0 count at in omega arith);
+    jobs = h.laws.jobs;
+  };
+  counted = h.counted;
+}
 
 -- ---- only numbers changed
+
 pub book-numbers : (r : FileRegister) (made : ℕ) (numbers : List RegisteredFile) → IsFileBook r made → NumbersStand numbers r.captured r.next → captures numbers ≡ captures r.numbers → IsFileBook (record r { numbers = numbers }) made
 book-numbers r made numbers h stand same = record {
   laws = record { numbers = stand; few = omega (arith, h.laws.few, same); families = h.laws.families; lanes = h.laws.lanes; holds = h.laws.holds; jobs = h.laws.jobs };

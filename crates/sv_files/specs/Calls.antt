@@ -67,6 +67,10 @@ unhold_refusal count = if count == 0 then Some NoHold else None
 abbrev pub with_hold : FileRegister → ℕ → ℕ → FileRegister
 with_hold r lane count = record r { holds = slice_set r.holds lane count }
 
+-- no lane has a hold any more
+abbrev pub without_holds : FileRegister → FileRegister
+without_holds r = record r { holds = replicate MAX_LANES 0 }
+
 -- the refusal that finding meets: holds stand
 abbrev pub disabled : FileRegister → Option Refusal
 disabled r = if nat_lt 0 (sum r.holds) then Some (Disabled (sum r.holds)) else None

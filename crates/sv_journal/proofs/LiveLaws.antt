@@ -14,7 +14,7 @@ use Rattle.sv_laws.proofs.GrownRegisters.{get_within}
 use Rattle.sv_model.proofs.Entries.{some, every_push, in-left, in-right}
 use Rattle.sv_laws.proofs.Apart.{false_true}
 use Rattle.sv_journal.specs.declared.live.LiveSnapshot.{LiveSnapshot}
-use Rattle.sv_journal.specs.Calls.{is_live_snapshot}
+use Rattle.sv_journal.specs.Calls.{IsNewest, is_live_snapshot}
 use Rattle.sv_journal.specs.Kept.{AreCounts, AreLive, HasCuts, IsNone, IsPlaceOf, Precedes, snapshot_of}
 
 -- ---- a list without one item
@@ -59,6 +59,24 @@ module _ (J : List Write) (S : List Snapshot) (live : List LiveSnapshot) (h : Ar
 
   pub place-live : (id p : ℕ) → IsPlaceOf live id p → is_live_snapshot S id ≡ true
   place-live id p q = ap (λ o. unwrap_or (option_map (λ (s : Snapshot). s.live) o) false) (place-entry id p q)
+
+  -- ---- the last one
+
+  pub newest-live : (n : ℕ) (r : LiveSnapshot) → n + 1 ≡ length live → slice_get live n ≡ Some r → IsNewest S r.id
+  newest-live n r last at = record {
+    it = snapshot_of r;
+    found = h.each n r at;
+    live = refl;
+    last = λ m s e l.
+        let t = h.all m s e l in
+        ⊎_elim
+        (λ lt. let o = h.order t.1.at n t.0 r t.1.is at lt in omega (arith, o.id, t.2))
+        (λ q. let same : t.0 ≡ r = some (sym t.1.is ∙ ap (slice_get live) q ∙ at) in omega (arith, t.2, ap (λ (z : LiveSnapshot). z.id) same))
+        (before t.1.at n (get_within live t.1.at t.0 t.1.is) last);
+  }
+    where
+      before : (i k : ℕ) → i < length live → k + 1 ≡ length live → (i < k) ⊎ (i ≡ k)
+      before i k lt e = grind arith
 
   -- ---- one more
 

@@ -1,12 +1,12 @@
 -- What the calls on the journal give and leave.
-use Rattle.std.specs.Prelude.{◌≡◌, ◌+◌, ◌==◌, ◌&&◌, ◌∷◌, ◌++◌, ℕ, Bool, true, false, cond, not, nat_le, List, [], Option, Some, None, length, unwrap_or, option_map}
+use Rattle.std.specs.Prelude.{◌≡◌, ◌≤◌, ◌+◌, ◌==◌, ◌&&◌, ◌∷◌, ◌++◌, ℕ, Bool, true, false, cond, not, nat_le, List, [], Option, Some, None, length, unwrap_or, option_map}
 use Rattle.std.specs.List.{list_all, list_any}
 use Rattle.sv_model.specs.declared.writes.Write.{Write}
 use Rattle.sv_model.specs.declared.records.Snapshot.{Snapshot}
 use Rattle.sv_model.specs.declared.refusals.Refusal.{Refusal}
 use Rattle.sv_model.specs.declared.refusals.Refusal.TheVariants as refusal
 use Rattle.sv_model.specs.Lists.{bit, total}
-use Rattle.sv_model.specs.Registers.{entry, change}
+use Rattle.sv_model.specs.Registers.{EachEntry, entry, change}
 use Rattle.sv_model.specs.Refusals.{first_due}
 use Rattle.sv_model.specs.Snapshots.{cut_of}
 use Rattle.sv_journal.specs.Seen.{JournalSeen}
@@ -64,3 +64,14 @@ is_live_cut writes snapshots family cut = list_any (λ s. s.live && (cut_of writ
 -- so is each of the cuts
 abbrev pub are_live_cuts : List Write → List Snapshot → ℕ → List ℕ → Bool
 are_live_cuts writes snapshots family cuts = list_all (is_live_cut writes snapshots family) cuts
+
+-- no snapshot is Live
+abbrev pub AreEnded : List Snapshot → Type 0
+AreEnded snapshots = EachEntry (λ n s. s.live ≡ false) snapshots
+
+-- the Live snapshot that was taken last
+pub record IsNewest (snapshots : List Snapshot) (id : ℕ) : Type 0 where
+  pub it : Snapshot
+  pub found : entry snapshots id ≡ Some it
+  pub live : it.live ≡ true
+  pub last : EachEntry (λ n s. s.live ≡ true → n ≤ id) snapshots

@@ -1,9 +1,9 @@
 // Snapshots: each reads what the writes before it leave. What a file keeps for the Live ones.
-ghost use Rattle.std.specs.Prelude.{◌≡◌, ◌<◌, ◌≤◌, ◌∷◌, ◌++◌, [], IfOk, OnOk, OnErr, length};
+ghost use Rattle.std.specs.Prelude.{◌≡◌, ◌<◌, ◌≤◌, ◌∷◌, ◌++◌, [], IfOk, MatchOption, OnOk, OnErr, length};
 ghost use Rattle.sv_model.specs.declared.records.FileMeta.{FileMeta};
 ghost use Rattle.sv_model.specs.Refusals.{Refuses, RefusesExactly};
 ghost use Rattle.sv_laws.specs.Snapping.{HasLiveCuts};
-ghost use Rattle.sv_journal.specs.Calls.{IsCutAt, IsSnapped, IsUnsnapped, are_live_cuts, is_live_cut, is_live_snapshot, snap_refusal, snapshot_refusal};
+ghost use Rattle.sv_journal.specs.Calls.{AreEnded, IsCutAt, IsNewest, IsSnapped, IsUnsnapped, are_live_cuts, is_live_cut, is_live_snapshot, snap_refusal, snapshot_refusal};
 
 use crate::journal::{FAMILIES, Journal};
 use crate::live::{LiveSnapshot, place_of};
@@ -54,6 +54,17 @@ impl Journal {
         let snapshot = &mut self.snapshots[id as usize - 1];
         snapshot.live = false;
         Ok(())
+    }
+
+    /// The number of the Live snapshot that was taken last; none exactly where none is Live. Takes no memory.
+    pub fn live_snapshot(&self) -> Option<u64>
+        ensures { MatchOption result (AreEnded self.now.snapshots) (IsNewest self.now.snapshots) }
+    {
+        let count = self.live.len();
+        if count < 1 {
+            return None;
+        }
+        Some(self.live[count - 1].id)
     }
 
     /// Where a Live snapshot reads the family: at so many of its writes. Refused as `NoSnapshot` exactly where the

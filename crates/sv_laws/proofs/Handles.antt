@@ -9,7 +9,7 @@ use Rattle.sv_model.specs.Books.{Books}
 use Rattle.sv_model.specs.Families.{is_retired}
 use Rattle.sv_model.specs.Steady.{Sound}
 use Rattle.sv_model.proofs.Lists.{total_at}
-use Rattle.sv_laws.specs.Families.{IsDropped, IsOpened, IsReleased, IsRetired, IsCurrentEnded, released}
+use Rattle.sv_laws.specs.Families.{IsDropped, IsOpened, IsReleased, IsRetired, IsForgotten, IsCurrentEnded, released, without_handles}
 use Rattle.sv_model.proofs.Entries.{some}
 use Rattle.sv_model.proofs.Registers.{get-some}
 use Rattle.sv_laws.proofs.GrownRegisters.{get_within}
@@ -122,6 +122,26 @@ module _ (a b : Books) (k : Sound a) (f : ℕ) where
         last_is = refl;
         current = inr refl;
         back = λ _. not-retired h.it lane h.handle;
+        ended = λ _. refl;
+        had = λ _ _. (h.s, h.current);
+        is = h.is;
+      })
+
+  pub forgotten : IsForgotten a b f → Sound b × After a b
+  forgotten h =
+      let y : Family = without_handles h.it in
+      let gone : is_retired y ≡ true = ap (λ b. b && (total bit y.handles == 0)) h.gone in
+      family-changed a b k f h.it y h.top (record h.top { current = None }) (record {
+        at = h.at;
+        on = h.on;
+        name_is = refl;
+        options_are = refl;
+        handles = sym (k.steady.handles f h.it h.at);
+        dropped = λ e. e;
+        default = λ q. default-stands h.it h.at q;
+        last_is = refl;
+        current = inr refl;
+        back = λ r. false_true (sym r ∙ gone);
         ended = λ _. refl;
         had = λ _ _. (h.s, h.current);
         is = h.is;

@@ -2,7 +2,7 @@
 use Rattle.sv_model.specs.Books.{Books}
 use Rattle.sv_model.specs.After.{After}
 use Rattle.sv_model.specs.Steady.{Sound}
-use Rattle.sv_laws.specs.Changes.{Changes, written, option_set, switched, flush_begun, merge_planned, flushed, compacted, given_up, cleaned, created, opened, dropped, released, retired, current_ended, grabbed, stray, held, snapped, unsnapped}
+use Rattle.sv_laws.specs.Changes.{Changes, written, option_set, switched, flush_begun, merge_planned, flushed, compacted, given_up, cleaned, created, opened, dropped, released, retired, forgotten, current_ended, grabbed, stray, held, snapped, unsnapped}
 use Rattle.sv_laws.proofs.Written as of_write
 use Rattle.sv_laws.proofs.OptionSet as of_option
 use Rattle.sv_laws.proofs.Switched as of_switch
@@ -31,6 +31,7 @@ sound-kept a b k (opened f lane h) = of_handles.opened a b k f lane h
 sound-kept a b k (dropped f lane h) = of_handles.dropped a b k f lane h
 sound-kept a b k (released f lane h) = of_handles.let-go a b k f lane h
 sound-kept a b k (retired f lane h) = of_handles.retired a b k f lane h
+sound-kept a b k (forgotten f h) = of_handles.forgotten a b k f h
 sound-kept a b k (current_ended f h) = of_handles.ended a b k f h
 sound-kept a b k (grabbed h) = of_numbers.grabbed-changed a b k h
 sound-kept a b k (stray n h) = of_numbers.strayed a b k n h

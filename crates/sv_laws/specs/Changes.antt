@@ -11,7 +11,7 @@ use Rattle.sv_laws.specs.Writes.{IsWritten}
 use Rattle.sv_laws.specs.NewCurrents.{IsOptionSet, IsSwitched, IsFlushed, IsCompacted, IsFamilyMade}
 use Rattle.sv_laws.specs.Captures.{IsFlushBegun, IsMergePlanned, IsGivenUp}
 use Rattle.sv_laws.specs.Cleaning.{IsCleaned}
-use Rattle.sv_laws.specs.Families.{IsDropped, IsOpened, IsReleased, IsRetired, IsCurrentEnded}
+use Rattle.sv_laws.specs.Families.{IsDropped, IsOpened, IsReleased, IsRetired, IsForgotten, IsCurrentEnded}
 use Rattle.sv_laws.specs.Purges.{ChangesGrabbed, IsStray, ChangesHolds}
 use Rattle.sv_laws.specs.Snapping.{IsSnapped, IsUnsnapped}
 
@@ -34,6 +34,7 @@ pub data Changes (a b : Books) : Type 0 where
   dropped : (f lane : ℕ) → IsDropped a b f lane → Changes a b
   released : (f lane : ℕ) → IsReleased a b f lane → Changes a b
   retired : (f lane : ℕ) → IsRetired a b f lane → Changes a b
+  forgotten : (f : ℕ) → IsForgotten a b f → Changes a b
   current_ended : (f : ℕ) → IsCurrentEnded a b f → Changes a b
   -- file numbers, holds and jobs
   grabbed : ChangesGrabbed a b → Changes a b

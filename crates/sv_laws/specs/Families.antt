@@ -1,9 +1,10 @@
 -- A family's handles, its drop, its retirement, and the end of its current.
-use Rattle.std.specs.Prelude.{◌≡◌, ◌<◌, ◌⊎◌, ℕ, true, false, Some, None, length, slice_get, slice_set}
+use Rattle.std.specs.Prelude.{◌≡◌, ◌<◌, ◌⊎◌, ℕ, true, false, Some, None, length, replicate, slice_get, slice_set}
 use Rattle.sv_model.specs.declared.records.Family.{Family}
 use Rattle.sv_model.specs.declared.records.Top.{Top}
 use Rattle.sv_model.specs.Books.{Books}
 use Rattle.sv_model.specs.Families.{is_retired}
+use Rattle.sv_model.specs.declared.limits.TheConstants.{MAX_LANES}
 
 -- The family keeps its name and its options. Its current stands, or it has none any more. Where it is retired by it,
 -- it had a current, which is its last Version's holder from then on.
@@ -71,3 +72,20 @@ pub record IsCurrentEnded (a b : Books) (f : ℕ) : Type 0 where
   pub top : Top
   pub on : slice_get a.tops f ≡ Some top
   pub is : b ≡ record a { tops = slice_set a.tops f (record top { current = None }) }
+
+abbrev pub without_handles : Family → Family
+without_handles it = record it { handles = replicate MAX_LANES false }
+
+-- At the close: no lane has a handle of a dropped family any more. It is retired by it, and has no current any more.
+pub record IsForgotten (a b : Books) (f : ℕ) : Type 0 where
+  pub it : Family
+  pub at : slice_get a.families f ≡ Some it
+  pub gone : it.dropped ≡ true
+  pub top : Top
+  pub on : slice_get a.tops f ≡ Some top
+  pub s : ℕ
+  pub current : top.current ≡ Some s
+  pub is : b ≡ record a {
+    families = slice_set a.families f (without_handles it);
+    tops = slice_set a.tops f (record top { current = None });
+  }

@@ -14,9 +14,9 @@ use Rattle.sv_model.specs.Families.{IsOwn, is_retired}
 use Rattle.sv_model.specs.Registers.{entry}
 use Rattle.sv_model.specs.Steady.{Sound}
 use Rattle.sv_model.proofs.Registers.{entry-else, entry-same}
-use Rattle.sv_family.specs.Calls.{IsChanged, with_handle}
-use Rattle.sv_laws.specs.Changes.{current_ended, released, retired}
-use Rattle.sv_laws.specs.Families.{IsCurrentEnded, IsReleased, IsRetired}
+use Rattle.sv_family.specs.Calls.{IsChanged, IsGivenUp, with_handle, without_handles}
+use Rattle.sv_laws.specs.Changes.{current_ended, forgotten, released, retired}
+use Rattle.sv_laws.specs.Families.{IsCurrentEnded, IsForgotten, IsReleased, IsRetired}
 use Rattle.sv_laws.proofs.GrownRegisters.{get_within}
 use Rattle.sv_model.proofs.Entries.{some}
 use Rattle.sv_laws.proofs.Kept.{sound-kept}
@@ -158,3 +158,21 @@ release-law a b k f lane h = sound-kept a b k (released f lane h)
 
 pub retire-law : (a b : Books) (k : Sound a) (f lane : ℕ) → IsRetired a b f lane → Sound b × After a b
 retire-law a b k f lane h = sound-kept a b k (retired f lane h)
+
+-- ---- a dropped family, at the close
+
+pub forget-changes : (a : Books) (f : ℕ) (cur : HasCurrentAt a f) (new : List Family) → IsChanged IsGivenUp without_handles a.families f new
+    → (T : List Top) → T ≡ set a.tops f (record cur.top { current = None }) → IsForgotten a (record a { families = new; tops = T }) f
+forget-changes a f cur new h T e = record {
+  it = h.it;
+  at = h.at;
+  gone = h.was;
+  top = cur.top;
+  on = cur.at;
+  s = cur.serial;
+  current = cur.is;
+  is = λ i. record a { families = h.changed i; tops = e i };
+}
+
+pub forget-law : (a b : Books) (k : Sound a) (f : ℕ) → IsForgotten a b f → Sound b × After a b
+forget-law a b k f h = sound-kept a b k (forgotten f h)

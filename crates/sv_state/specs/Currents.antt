@@ -1,5 +1,5 @@
 -- The current of a family.
-use Rattle.std.specs.Prelude.{◌≡◌, cond, ℕ, false, List, Option, Some, None, slice_get}
+use Rattle.std.specs.Prelude.{◌≡◌, cond, ℕ, true, false, List, Option, Some, None, slice_get}
 use Rattle.sv_model.specs.declared.records.Family.{Family}
 use Rattle.sv_model.specs.declared.records.Top.{Top}
 use Rattle.sv_model.specs.declared.settings.Options.{Options}
@@ -43,4 +43,11 @@ pub record CanEnd (b : Books) (family : ℕ) : Type 0 where
   pub it : Family
   pub at : slice_get b.families family ≡ Some it
   pub stands : it.dropped ≡ false
+  pub current : HasCurrentAt b family
+
+-- the family has a current and is dropped
+pub record CanRetire (b : Books) (family : ℕ) : Type 0 where
+  pub it : Family
+  pub at : slice_get b.families family ≡ Some it
+  pub gone : it.dropped ≡ true
   pub current : HasCurrentAt b family

@@ -2,9 +2,9 @@
 ghost use Rattle.std.specs.Prelude.{◌≡◌, ◌<◌, ◌↔◌, IfOk, IfSome, IsTrue, OnErr, length};
 ghost use Rattle.std.specs.Option.{option_map};
 ghost use Rattle.sv_model.specs.Refusals.{RefusesExactly};
-ghost use Rattle.sv_laws.specs.Families.{IsCurrentEnded};
+ghost use Rattle.sv_laws.specs.Families.{IsCurrentEnded, IsForgotten};
 ghost use Rattle.sv_family.specs.Refused.{release_refusal};
-ghost use Rattle.sv_state.specs.Currents.{CanEnd, OwnHaveCurrents};
+ghost use Rattle.sv_state.specs.Currents.{CanEnd, CanRetire, OwnHaveCurrents};
 ghost use Rattle.sv_state.specs.Follows.{Follows};
 ghost use Rattle.sv_state.specs.Gone.{IsFree, IsLastOr, IsReleasedAs, SuperGoes, TellsEnd};
 
@@ -48,6 +48,21 @@ impl State {
         ensures spare { self.new.spare ≡ self.old.spare }
         ensures follows { Follows self.old.books self.new.books }
     {
+        let old = take_current(&mut self.tops, &mut self.held, family);
+        Install::ended(family, old)
+    }
+
+    /// At the close: a dropped family is retired, whichever lanes have handles of it. It has no current any more. Takes
+    /// no memory.
+    pub fn retire(&mut self, family: FamilyId) -> Install
+        requires { CanRetire self.old.books family }
+        ensures retired { IsForgotten self.old.books self.new.books family }
+        ensures family { result.family ≡ family }
+        ensures tells { TellsEnd self.old.books result }
+        ensures spare { self.new.spare ≡ self.old.spare }
+        ensures follows { Follows self.old.books self.new.books }
+    {
+        self.families.retire(family);
         let old = take_current(&mut self.tops, &mut self.held, family);
         Install::ended(family, old)
     }

@@ -3,7 +3,7 @@ ghost use Rattle.std.specs.Prelude.{◌≡◌, ◌<◌, ◌+◌, ◌-◌, ℕ, I
 ghost use Rattle.sv_model.specs.declared.records.FileStatus.TheVariants as status;
 ghost use Rattle.sv_model.specs.Numbers.{AreInOrder, IsReady, IsRegistered, MarksOnly};
 ghost use Rattle.sv_model.specs.Refusals.{Refuses, RefusesExactly};
-ghost use Rattle.sv_files.specs.Calls.{IsFound, IsScanned, IsTaken, MayBeTaken, disabled, hold_refusal, ungrabbed, unhold_refusal, with_hold};
+ghost use Rattle.sv_files.specs.Calls.{IsFound, IsScanned, IsTaken, MayBeTaken, disabled, hold_refusal, ungrabbed, unhold_refusal, with_hold, without_holds};
 ghost use Rattle.sv_state.specs.Follows.{Follows, OnlyFiles};
 
 use crate::state::State;
@@ -52,6 +52,16 @@ impl State {
         let held = self.objects.files.unhold(lane);
         self.objects.files.laws();
         held
+    }
+
+    /// Ends the holds of all lanes. Takes no memory.
+    pub fn end_holds(&mut self)
+        ensures ended { self.new.books.files ≡ without_holds self.old.books.files }
+        ensures rest { OnlyFiles self.old self.new }
+        ensures follows { Follows self.old.books self.new.books }
+    {
+        self.objects.files.end_holds();
+        self.objects.files.laws();
     }
 
     /// The Obsolete numbers below the bound, ascending; nothing changes. Refused as `Disabled` exactly where a hold

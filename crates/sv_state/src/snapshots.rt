@@ -1,11 +1,11 @@
 // Snapshots.
-ghost use Rattle.std.specs.Prelude.{◌≡◌, ◌<◌, ◌+◌, IfOk, OnOk, OnErr, length, Some, true};
+ghost use Rattle.std.specs.Prelude.{◌≡◌, ◌<◌, ◌+◌, IfOk, MatchOption, OnOk, OnErr, length, Some, true};
 ghost use Rattle.sv_model.specs.declared.records.Snapshot.{Snapshot};
 ghost use Rattle.sv_model.specs.Refusals.{Refuses, RefusesExactly};
 ghost use Rattle.sv_model.specs.Registers.{entry};
 ghost use Rattle.sv_model.specs.Snapshots.{cut_of};
 ghost use Rattle.sv_laws.specs.Snapping.{IsSnapped};
-ghost use Rattle.sv_journal.specs.Calls.{snap_refusal, snapshot_refusal};
+ghost use Rattle.sv_journal.specs.Calls.{AreEnded, IsNewest, snap_refusal, snapshot_refusal};
 ghost use Rattle.sv_state.specs.Follows.{Follows};
 ghost use Rattle.sv_state.specs.Taken.{IsCut, IsEnded};
 
@@ -34,6 +34,13 @@ impl State {
         ensures follows { Follows self.old.books self.new.books }
     {
         self.journal.unsnap(id)
+    }
+
+    /// The number of the Live snapshot that was taken last; none exactly where none is Live. Takes no memory.
+    pub fn live_snapshot(&self) -> Option<u64>
+        ensures { MatchOption result (AreEnded self.now.books.snapshots) (IsNewest self.now.books.snapshots) }
+    {
+        self.journal.live_snapshot()
     }
 
     /// Where a Live snapshot reads the family: at so many of its writes. Refused as `NoSnapshot` exactly where the

@@ -1,9 +1,9 @@
 // The holds of lanes. While one stands, nothing is handed out for removal.
 ghost use Rattle.std.specs.Prelude.{◌≡◌, ◌<◌, ◌+◌, ◌-◌, IfOk, OnErr, length, sum, slice_index};
 ghost use Rattle.sv_model.specs.Refusals.{RefusesExactly};
-ghost use Rattle.sv_files.specs.Calls.{hold_refusal, unhold_refusal, with_hold};
+ghost use Rattle.sv_files.specs.Calls.{hold_refusal, unhold_refusal, with_hold, without_holds};
 
-use super::FileBook;
+use super::{FileBook, LANES};
 use sv_model::{MAX_HOLDS, Refusal};
 
 impl FileBook {
@@ -53,6 +53,13 @@ impl FileBook {
         }
         self.holds[lane as usize] = count - 1;
         Ok(u32::from(count) - 1)
+    }
+
+    /// Ends the holds of all lanes. Takes no memory.
+    pub fn end_holds(&mut self)
+        ensures { self.new ≡ without_holds self.old }
+    {
+        self.holds = [0; LANES];
     }
 }
 
