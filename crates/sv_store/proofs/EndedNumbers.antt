@@ -47,7 +47,7 @@ in-at k (n ∷ found) (suc i) at = ap (λ b. (n == k) || b) (in-at k found i at)
 pub in-is : (k : ℕ) (found : List ℕ) → In k found → is_in k found ≡ true
 in-is k found there = in-at k found there.at there.is
 
-is-in : (k : ℕ) (found : List ℕ) → is_in k found ≡ true → In k found
+pub is-in : (k : ℕ) (found : List ℕ) → is_in k found ≡ true → In k found
 is-in k [] e = absurd (false≢true e)
 is-in k (n ∷ found) e = elim (test_or n k) [
   | inl eq ↦ record { at = 0; is = ap Some eq.1 }

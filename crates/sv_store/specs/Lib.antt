@@ -1,5 +1,7 @@
 pub mod Cells
+pub mod Closing
 pub mod Emptying
+pub mod Ending
 pub mod Flushing
 pub mod Going
 pub mod Installing

@@ -4,6 +4,7 @@
 mod appends;
 mod cells;
 mod cleanups;
+mod closes;
 mod emptying;
 mod families;
 mod filling;
@@ -25,5 +26,7 @@ mod summaries;
 mod switches;
 mod writes;
 
+
+pub use closes::Closed;
 pub use reads::Got;
 pub use store::Store;
