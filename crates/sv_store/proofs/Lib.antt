@@ -1,12 +1,16 @@
 mod ActiveCells
 mod CallLaws
 mod CellLaws
-mod EndedNumbers
+pub mod EmptiedFamilies
+pub mod EndedNumbers
 mod FlushCalls
 mod FlushFiles
 mod FlushLaws
 mod FlushedLaws
 mod FrameLaws
+mod HeldFlushes
+pub mod HeldLaws
+mod HeldPurges
 mod LiveLaws
 mod OpeningLaws
 mod OutputLaws
@@ -19,7 +23,7 @@ mod ReadCalls
 mod ReadLaws
 mod ReadParts
 mod RemovalMarks
-mod RemovalSteps
+pub mod RemovalSteps
 mod RemovedFiles
 mod RetireLaws
 mod StandLaws
