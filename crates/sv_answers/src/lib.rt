@@ -3,17 +3,21 @@
 #![tactic(auto)]
 
 mod families;
+mod flushes;
 mod holds;
 mod listings;
 mod options;
+mod purges;
 mod reads;
 mod snapshots;
 mod writes;
 
 pub use families::{create, drop_family, open, release};
+pub use flushes::flush;
 pub use holds::{hold, unhold};
 pub use listings::live;
 pub use options::set;
+pub use purges::purge;
 pub use reads::{get, gets};
 pub use snapshots::{snap, unsnap};
 pub use writes::{delete, put};

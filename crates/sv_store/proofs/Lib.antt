@@ -8,12 +8,17 @@ mod CurrentCases
 mod EndedCurrents
 mod EndedNumbers
 mod EndedSnapshots
+pub mod EmptiedFamilies
+pub mod EndedNumbers
 mod FlushCalls
 mod FlushFiles
 mod FlushLaws
 mod FlushedLaws
 mod FrameLaws
 mod LeftNumbers
+mod HeldFlushes
+pub mod HeldLaws
+mod HeldPurges
 mod LiveLaws
 mod OpeningLaws
 mod OutputLaws
@@ -26,7 +31,7 @@ mod ReadCalls
 mod ReadLaws
 mod ReadParts
 mod RemovalMarks
-mod RemovalSteps
+pub mod RemovalSteps
 mod RemovedFiles
 mod RetireLaws
 mod StandLaws

@@ -4,6 +4,7 @@ pub mod Emptying
 pub mod Ending
 pub mod Flushing
 pub mod Going
+pub mod HeldFiles
 pub mod Installing
 pub mod LiveFiles
 pub mod Opening

@@ -1,4 +1,5 @@
 use Rattle.std.specs.Prelude.{Ok, Err}
+use Rattle.sv_answers.proofs.HeldAnswers.{release-held, same-held}
 use Rattle.sv_answers.proofs.ReleaseAnswers.{release-replies}
 use Rattle.sv_answers.proofs.families.release.Goals as goal
 
@@ -11,3 +12,13 @@ pub returns-in-Err-clause-answered : goal.returns-in-Err-clause-answered
 returns-in-Err-clause-answered c told k all =
     let x = c.in-Err.ensures in
     release-replies told c.args.store.now c.release.new.self x.follows c.laws.ensures.rests.stands.sound k all c.args.name.now (Err c.in-Err.refusal) x.released x.refused x.kept
+
+pub returns-in-Ok-clause-held : goal.returns-in-Ok-clause-held
+returns-in-Ok-clause-held c =
+    let x = c.in-Ok.ensures in
+    release-held c.args.store.now c.release.new.self c.laws.ensures.rests.stands.sound x.follows c.args.name.now x.released
+
+pub returns-in-Err-clause-held : goal.returns-in-Err-clause-held
+returns-in-Err-clause-held c =
+    let x = c.in-Err.ensures in
+    same-held c.args.store.now c.release.new.self c.laws.ensures.rests.stands.sound x.follows x.kept

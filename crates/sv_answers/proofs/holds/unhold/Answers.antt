@@ -1,4 +1,7 @@
+use Rattle.std.proofs.Common.{ap}
 use Rattle.std.specs.Prelude.{Ok, Err}
+use Rattle.sv_model.specs.Books.{FileRegister}
+use Rattle.sv_answers.proofs.HeldAnswers.{numbers-held, same-held}
 use Rattle.sv_answers.proofs.HoldAnswers.{unhold-replies}
 use Rattle.sv_answers.proofs.holds.unhold.Goals as goal
 
@@ -11,3 +14,13 @@ pub returns-in-Err-clause-answered : goal.returns-in-Err-clause-answered
 returns-in-Err-clause-answered c told k all =
     let x = c.in-Err.ensures in
     unhold-replies told c.args.store.now c.unhold.new.self x.follows k all x.rest (Err c.in-Err.refusal) x.ended x.refused x.kept
+
+pub returns-in-Ok-clause-held : goal.returns-in-Ok-clause-held
+returns-in-Ok-clause-held c =
+    let x = c.in-Ok.ensures in
+    numbers-held c.args.store.now c.unhold.new.self c.laws.ensures.rests.stands.sound x.follows (ap (λ (z : FileRegister). z.numbers) x.ended.1)
+
+pub returns-in-Err-clause-held : goal.returns-in-Err-clause-held
+returns-in-Err-clause-held c =
+    let x = c.in-Err.ensures in
+    same-held c.args.store.now c.unhold.new.self c.laws.ensures.rests.stands.sound x.follows x.kept

@@ -1,4 +1,5 @@
 use Rattle.std.specs.Prelude.{Ok, Err}
+use Rattle.sv_answers.proofs.HeldAnswers.{same-held, set-held}
 use Rattle.sv_answers.proofs.SetAnswers.{set-replies}
 use Rattle.sv_answers.proofs.options.set.Goals as goal
 
@@ -13,3 +14,13 @@ returns-in-Err-clause-answered c told k all =
     let x = c.in-Err.ensures in
     set-replies told c.args.store.now c.set.new.self x.follows c.laws.ensures.rests.stands.sound k all c.args.name.now c.args.option c.args.value
     (Err c.in-Err.refusal) x.set x.refused x.kept
+
+pub returns-in-Ok-clause-held : goal.returns-in-Ok-clause-held
+returns-in-Ok-clause-held c =
+    let x = c.in-Ok.ensures in
+    set-held c.args.store.now c.set.new.self c.laws.ensures.rests.stands.sound x.follows c.args.name.now c.args.option c.args.value _ x.set
+
+pub returns-in-Err-clause-held : goal.returns-in-Err-clause-held
+returns-in-Err-clause-held c =
+    let x = c.in-Err.ensures in
+    same-held c.args.store.now c.set.new.self c.laws.ensures.rests.stands.sound x.follows x.kept

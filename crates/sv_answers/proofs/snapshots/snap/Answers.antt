@@ -1,4 +1,7 @@
+use Rattle.std.proofs.Common.{ap}
 use Rattle.std.specs.Prelude.{Ok, Err}
+use Rattle.sv_model.specs.Books.{Books}
+use Rattle.sv_answers.proofs.HeldAnswers.{numbers-held, same-held}
 use Rattle.sv_answers.proofs.HoldAnswers.{snap-replies}
 use Rattle.sv_answers.proofs.snapshots.snap.Goals as goal
 
@@ -11,3 +14,13 @@ pub returns-in-Err-clause-answered : goal.returns-in-Err-clause-answered
 returns-in-Err-clause-answered c told k all =
     let x = c.in-Err.ensures in
     snap-replies told c.args.store.now c.snap.new.self x.follows k all (Err c.in-Err.refusal) x.made x.refused x.kept
+
+pub returns-in-Ok-clause-held : goal.returns-in-Ok-clause-held
+returns-in-Ok-clause-held c =
+    let x = c.in-Ok.ensures in
+    numbers-held c.args.store.now c.snap.new.self c.laws.ensures.rests.stands.sound x.follows (ap (λ (z : Books). z.files.numbers) x.made.0.is)
+
+pub returns-in-Err-clause-held : goal.returns-in-Err-clause-held
+returns-in-Err-clause-held c =
+    let x = c.in-Err.ensures in
+    same-held c.args.store.now c.snap.new.self c.laws.ensures.rests.stands.sound x.follows x.kept

@@ -3,6 +3,7 @@ use Rattle.std.specs.Prelude.{Ok, Err}
 use Rattle.sv_model.specs.declared.writes.Op.TheVariants as op
 use Rattle.sv_script.specs.declared.commands.Command.TheVariants as command
 use Rattle.sv_script.specs.declared.replies.Reply.TheVariants as reply
+use Rattle.sv_answers.proofs.HeldAnswers.{write-held}
 use Rattle.sv_answers.proofs.PutAnswers.{delete-is}
 use Rattle.sv_answers.proofs.WriteAnswers.{write-answers}
 use Rattle.sv_answers.proofs.writes.delete.Goals as goal
@@ -22,3 +23,13 @@ returns-in-Err-delete-clause-answered c told k all =
     write-answers told c.args.store.now c.delete.new.self c.laws.ensures.rests.stands.sound c.delete.ensures.follows k all
     (command.Delete name key) name key op.Delete reply.Delete (delete-is told name key c.in-Ok.ensures.refused)
     (Err c.in-Err-delete.refusal) (record { key = c.in-Ok.key; op = op.Delete }) c.in-Ok.ensures.made refl c.in-Err-delete.ensures.writes
+
+pub returns-in-Ok-delete-clause-held : goal.returns-in-Ok-delete-clause-held
+returns-in-Ok-delete-clause-held c =
+    write-held c.args.store.now c.delete.new.self c.laws.ensures.rests.stands.sound c.delete.ensures.follows
+    c.args.name.now (record { key = c.in-Ok.key; op = op.Delete }) (Ok c.in-Ok-delete.number) c.in-Ok-delete.ensures.writes
+
+pub returns-in-Err-delete-clause-held : goal.returns-in-Err-delete-clause-held
+returns-in-Err-delete-clause-held c =
+    write-held c.args.store.now c.delete.new.self c.laws.ensures.rests.stands.sound c.delete.ensures.follows
+    c.args.name.now (record { key = c.in-Ok.key; op = op.Delete }) (Err c.in-Err-delete.refusal) c.in-Err-delete.ensures.writes

@@ -3,6 +3,7 @@ use Rattle.std.specs.Prelude.{Ok, Err}
 use Rattle.sv_model.specs.declared.writes.Op.TheVariants as op
 use Rattle.sv_script.specs.declared.commands.Command.TheVariants as command
 use Rattle.sv_script.specs.declared.replies.Reply.TheVariants as reply
+use Rattle.sv_answers.proofs.HeldAnswers.{write-held}
 use Rattle.sv_answers.proofs.PutAnswers.{put-is, row-free}
 use Rattle.sv_answers.proofs.WriteAnswers.{write-answers}
 use Rattle.sv_answers.proofs.writes.put.Goals as goal
@@ -28,3 +29,13 @@ returns-in-Err-put-clause-answered c told k all =
     write-answers told c.args.store.now c.put.new.self c.laws.ensures.rests.stands.sound c.put.ensures.follows k all
     (command.Put name key value) name key (op.Put value) reply.Put (put-is told name key value free.0 free.1)
     (Err c.in-Err-put.refusal) (record { key = c.in-Ok.key; op = op.Put c.in-Ok.value }) row.0 (ap op.Put row.1) c.in-Err-put.ensures.writes
+
+pub returns-in-Ok-put-clause-held : goal.returns-in-Ok-put-clause-held
+returns-in-Ok-put-clause-held c =
+    write-held c.args.store.now c.put.new.self c.laws.ensures.rests.stands.sound c.put.ensures.follows
+    c.args.name.now (record { key = c.in-Ok.key; op = op.Put c.in-Ok.value }) (Ok c.in-Ok-put.number) c.in-Ok-put.ensures.writes
+
+pub returns-in-Err-put-clause-held : goal.returns-in-Err-put-clause-held
+returns-in-Err-put-clause-held c =
+    write-held c.args.store.now c.put.new.self c.laws.ensures.rests.stands.sound c.put.ensures.follows
+    c.args.name.now (record { key = c.in-Ok.key; op = op.Put c.in-Ok.value }) (Err c.in-Err-put.refusal) c.in-Err-put.ensures.writes
