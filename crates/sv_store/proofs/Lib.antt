@@ -1,6 +1,8 @@
 mod ActiveCells
 mod CallLaws
 mod CellLaws
+mod CompactionCalls
+mod CompactionFiles
 pub mod EmptiedFamilies
 pub mod EndedNumbers
 mod FlushCalls
@@ -8,6 +10,7 @@ mod FlushFiles
 mod FlushLaws
 mod FlushedLaws
 mod FrameLaws
+mod HeldCompactions
 mod HeldFlushes
 pub mod HeldLaws
 mod HeldPurges
