@@ -2,6 +2,7 @@
 //! leaves, whatever the lane was told before.
 #![tactic(auto)]
 
+mod compactions;
 mod families;
 mod flushes;
 mod holds;
@@ -12,6 +13,7 @@ mod reads;
 mod snapshots;
 mod writes;
 
+pub use compactions::compact;
 pub use families::{create, drop_family, open, release};
 pub use flushes::flush;
 pub use holds::{hold, unhold};

@@ -8,6 +8,8 @@ mod CurrentCases
 mod EndedCurrents
 mod EndedNumbers
 mod EndedSnapshots
+mod CompactionCalls
+mod CompactionFiles
 pub mod EmptiedFamilies
 pub mod EndedNumbers
 mod FlushCalls
@@ -16,6 +18,7 @@ mod FlushLaws
 mod FlushedLaws
 mod FrameLaws
 mod LeftNumbers
+mod HeldCompactions
 mod HeldFlushes
 pub mod HeldLaws
 mod HeldPurges

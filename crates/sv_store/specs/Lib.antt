@@ -1,5 +1,6 @@
 pub mod Cells
 pub mod Closing
+pub mod Compacting
 pub mod Emptying
 pub mod Ending
 pub mod Flushing
