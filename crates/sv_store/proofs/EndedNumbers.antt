@@ -9,7 +9,7 @@ use Rattle.sv_model.specs.declared.records.FileStatus.{FileStatus}
 use Rattle.sv_model.specs.declared.records.FileStatus.TheVariants.{Gone, Grabbed}
 use Rattle.sv_model.specs.Books.{FileRegister}
 use Rattle.sv_model.specs.Lists.{In, same}
-use Rattle.sv_model.specs.Numbers.{IsMarked, IsReady, MarksOnly, registered}
+use Rattle.sv_model.specs.Numbers.{IsMarked, IsReady, IsRegistered, MarksOnly, registered}
 use Rattle.sv_model.specs.Registers.{entry, change}
 use Rattle.sv_model.proofs.Basics.{none_some}
 use Rattle.sv_model.proofs.Entries.{some}
@@ -176,6 +176,19 @@ ready-still r gone n ready out =
 
 gone_grabbed : {A : Type 0} → Gone ≡ Grabbed → A
 gone_grabbed e = absurd (cc)
+
+-- a number that is one of these is Gone
+pub ended-gone : (r : FileRegister) (gone : List ℕ) (n : ℕ) (was : FileStatus) → IsRegistered r.numbers n was → In n gone
+    → IsRegistered (with_gone r gone).numbers n Gone
+ended-gone r gone n was h there = (
+  h.0,
+  ended gone h.1,
+  entry-mapped (ended gone) r.numbers h.0 h.1 h.2,
+  record {
+    number_is = h.3.number_is;
+    status_is = ap (λ (b : Bool). cond b Gone h.1.status) (in-is h.1.number gone (subst (λ k. In k gone) (sym h.3.number_is) there));
+  },
+)
 
 -- nothing is under way where nothing was
 pub still-gone : (r : FileRegister) (gone : List ℕ) → IsStill r → IsStill (with_gone r gone)

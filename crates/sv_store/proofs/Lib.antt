@@ -7,6 +7,7 @@ mod FlushFiles
 mod FlushLaws
 mod FlushedLaws
 mod FrameLaws
+mod HandedNumbers
 mod LiveLaws
 mod OpeningLaws
 mod OutputLaws
@@ -22,6 +23,8 @@ mod RemovalMarks
 mod RemovalSteps
 mod RemovedFiles
 mod RetireLaws
+pub mod ScanLaws
+mod ScanSteps
 mod StandLaws
 mod StillLaws
 mod SwitchLaws
