@@ -1,13 +1,17 @@
 mod ActiveCells
 mod CallLaws
 mod CellLaws
-mod EndedNumbers
+pub mod EmptiedFamilies
+pub mod EndedNumbers
 mod FlushCalls
 mod FlushFiles
 mod FlushLaws
 mod FlushedLaws
 mod FrameLaws
 mod HandedNumbers
+mod HeldFlushes
+pub mod HeldLaws
+mod HeldPurges
 mod LiveLaws
 mod OpeningLaws
 mod OutputLaws
@@ -20,7 +24,7 @@ mod ReadCalls
 mod ReadLaws
 mod ReadParts
 mod RemovalMarks
-mod RemovalSteps
+pub mod RemovalSteps
 mod RemovedFiles
 mod RetireLaws
 pub mod ScanLaws

@@ -13,19 +13,24 @@ use Rattle.sv_dir.specs.Files.{MayRemove, RemovesFile, same_name}
 use Rattle.sv_store.specs.Removals.{FilesGo, FilesGoIfTold}
 use Rattle.sv_store.proofs.TriedNumbers.{in-new, in-old}
 
-same_name-itself : (name : List ℕ) → same_name name name ≡ true
+pub same_name-itself : (name : List ℕ) → same_name name name ≡ true
 same_name-itself name = is_eq-slice_cmp name name ∙ (bytes_eq-Decides name name).1 refl
 
-same_name-other : (name other : List ℕ) → (name ≡ other → ⊥) → same_name name other ≡ false
+pub same_name-other : (name other : List ℕ) → (name ≡ other → ⊥) → same_name name other ≡ false
 same_name-other name other apart = not_true (same_name name other) (λ e. apart ((bytes_eq-Decides name other).0 (sym (is_eq-slice_cmp name other) ∙ e)))
   where
     not_true : (b : Bool) → (b ≡ true → ⊥) → b ≡ false
     not_true true h = absurd (h refl)
     not_true false h = refl
 
--- what is under a name once another file is removed
+-- what is under a name once a file is written or removed
+pub get-changed : (changed : List ℕ) (content : Option (List ℕ)) (files : Files) (name : List ℕ)
+    → finite.get (with_file changed content files) name ≡ cond (same_name name changed) content (finite.get files name)
+get-changed changed None files name = finite.get-remove nat_list_cmp_total files changed name
+get-changed changed (Some bytes) files name = finite.get-insert nat_list_cmp_total files changed bytes name
+
 removed : (n : ℕ) (files : Files) (name : List ℕ) → finite.get (with_file (file_name n) None files) name ≡ cond (same_name name (file_name n)) None (finite.get files name)
-removed n files name = finite.get-remove nat_list_cmp_total files (file_name n) name
+removed n files name = get-changed (file_name n) None files name
 
 none_either : (b : Bool) (o : Option (List ℕ)) → o ≡ None → cond b None o ≡ None
 none_either true o e = refl
@@ -52,6 +57,17 @@ named_or (x ∷ l) name = ⊎_elim
     (λ none. inr (λ k i q. ⊎_elim (λ e. no (subst (λ m. file_name m ≡ name) e q)) (λ later. none k later q) (in-cons k x l i)))
     (named_or l name))
     (name_or (file_name x) name)
+
+-- a file is as it was, or not there
+pub went-or : (gone left : List ℕ) (before mid : Files) (n : ℕ) → FilesGo gone left before mid
+    → (file_of n mid ≡ file_of n before) ⊎ (file_of n mid ≡ None)
+went-or gone left before mid n h = ⊎_elim
+    (λ g. inr (ap (finite.get mid) (sym g.2) ∙ h.absent g.0 g.1))
+    (λ none. ⊎_elim
+    (λ l. ⊎_elim (λ e. inl (ap (finite.get mid) (sym l.2) ∙ e ∙ ap (finite.get before) l.2)) (λ e. inr (ap (finite.get mid) (sym l.2) ∙ e)) (h.same_or_absent l.0 l.1))
+    (λ no. inl (h.others (file_name n) (λ m there. ⊎_elim (λ g. none m g) (λ l. no m l) there)))
+    (named_or left (file_name n)))
+    (named_or gone (file_name n))
 
 module _ (gone left : List ℕ) (before mid : Files) (n : ℕ) (h : FilesGo gone left before mid) where
   still-none : (m : ℕ) → file_of m mid ≡ None → file_of m (with_file (file_name n) None mid) ≡ None
@@ -98,19 +114,10 @@ module _ (gone left : List ℕ) (before mid : Files) (n : ℕ) (h : FilesGo gone
     absent = h.absent;
     same_or_absent = λ m there. ⊎_elim
         (λ old. h.same_or_absent m old)
-        (λ new. ⊎_elim (λ q. subst (λ k. (file_of k mid ≡ file_of k before) ⊎ (file_of k mid ≡ None)) (sym q) own) (λ i. absurd (in-none m i)) (in-cons m n [] new))
+        (λ new. ⊎_elim (λ q. subst (λ k. (file_of k mid ≡ file_of k before) ⊎ (file_of k mid ≡ None)) (sym q) (went-or gone left before mid n h)) (λ i. absurd (in-none m i)) (in-cons m n [] new))
         (in_append m left (n ∷ []) there);
     others = λ name o. h.others name (λ m there. o m (⊎_elim (λ g. inl g) (λ l. inr (in-old m n left l)) there));
   }
-    where
-      own : (file_of n mid ≡ file_of n before) ⊎ (file_of n mid ≡ None)
-      own = ⊎_elim
-          (λ g. inr (ap (finite.get mid) (sym g.2) ∙ h.absent g.0 g.1))
-          (λ none. ⊎_elim
-          (λ l. ⊎_elim (λ e. inl (ap (finite.get mid) (sym l.2) ∙ e ∙ ap (finite.get before) l.2)) (λ e. inr (ap (finite.get mid) (sym l.2) ∙ e)) (h.same_or_absent l.0 l.1))
-          (λ no. inl (h.others (file_name n) (λ m there. ⊎_elim (λ g. none m g) (λ l. no m l) there)))
-          (named_or left (file_name n)))
-          (named_or gone (file_name n))
 
 -- ---- where the directory tells its files
 pub nothing-goes : (files : Option Files) → FilesGoIfTold [] [] files files

@@ -2,6 +2,7 @@ pub mod Cells
 pub mod Emptying
 pub mod Flushing
 pub mod Going
+pub mod HeldFiles
 pub mod Installing
 pub mod LiveFiles
 pub mod Opening

@@ -3,10 +3,12 @@ use Rattle.std.proofs.Common.{◌⊎◌, inl, refl, subst}
 use Rattle.std.specs.Prelude.{IfErr, IfOk}
 use Rattle.sv_state.specs.Planning.{IsFlushPlan, flush_refusal}
 use Rattle.sv_store.specs.Flushing.{FlushRefused, Flushes, FlushesFamily, StopsAfter, StopsBefore}
+use Rattle.sv_store.specs.HeldFiles.{IsHeld}
 use Rattle.sv_store.specs.Seen.{StoreSeen}
 use Rattle.sv_store.proofs.FlushCalls.{flushed-as, stopped-as}
 use Rattle.sv_store.proofs.FlushLaws.{planned-empties}
 use Rattle.sv_store.proofs.FrameLaws.{own-currents}
+use Rattle.sv_store.proofs.HeldFlushes.{flush-held}
 use Rattle.sv_store.proofs.PlanFaults.{counts-none, flush-told}
 use Rattle.sv_store.proofs.PlanLaws.{plan-made, plan-refused}
 use Rattle.sv_store.proofs.WriteLaws.{seen_as}
@@ -30,6 +32,11 @@ returns-in-Err-clause-faults g c =
     let e = c.in-Err.refusal in
     counts-none e n
     (flush-told B c.args.name.now e (plan-refused B c.args.name.now (flush_refusal B) (IsFlushPlan B) c.flush_plan.result c.flush_plan.ensures e c.in-Err.is))
+
+pub returns-in-Err-clause-held : goal.returns-in-Err-clause-held
+returns-in-Err-clause-held g c =
+    let F = g.D.Dir.files c.args.dir.now in
+    subst (λ (z : StoreSeen). IsHeld z.books F → IsHeld z.books F) c.self.view_is (λ held. held)
 
 pub flush_family-requires : goal.flush_family-requires
 flush_family-requires g c =
@@ -65,3 +72,13 @@ returns-clause-refused g c =
     subst (λ (z : StoreSeen). IfErr r (FlushRefused z (seen_as t.books D) F G c.args.name.now)) c.self.view_is
     (stopped-as s t C D F G c.args.name.now p.0 p.1 r
     (subst (λ n. IfErr r (λ e. StopsBefore s t C D F G e ⊎ StopsAfter s.books t.books F G n e)) p.2.family_is c.flush_family.ensures.stopped))
+
+pub returns-clause-held : goal.returns-clause-held
+returns-clause-held g c =
+    let s = c.self.inside.state in
+    let t = c.flush_family.new.state in
+    let F = g.D.Dir.files c.args.dir.now in
+    let G = g.D.Dir.files c.flush_family.new.dir in
+    subst (λ (z : StoreSeen). IsHeld z.books F → IsHeld t.books G) c.self.view_is
+    (flush-held s t c.self.inside.cells c.flush_family.new.cells c.self.invariant.stands.sound F G c.in-Ok.plan.family
+    c.flush_family.result c.flush_family.ensures.flushed c.flush_family.ensures.stopped)

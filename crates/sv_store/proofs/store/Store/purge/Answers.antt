@@ -1,13 +1,15 @@
 use Rattle.std.proofs.Common.{◌≡◌, ℕ, List, Some, None, refl, sym, ap, subst}
 use Rattle.std.specs.Prelude.{IfSome}
 use Rattle.sv_model.specs.Lists.{In}
-use Rattle.sv_model.specs.Numbers.{IsReady}
+use Rattle.sv_model.specs.Numbers.{AreInOrder, IsReady}
 use Rattle.sv_model.specs.Refusals.{IsDue, RefusesExactly}
 use Rattle.sv_files.specs.Calls.{disabled}
 use Rattle.sv_state.specs.Seen.{StateSeen}
+use Rattle.sv_store.specs.HeldFiles.{IsHeld}
 use Rattle.sv_store.specs.Removals.{RemovesSome}
 use Rattle.sv_store.specs.Seen.{StoreSeen}
 use Rattle.sv_store.proofs.FrameLaws.{files-rests}
+use Rattle.sv_store.proofs.HeldPurges.{tried-held}
 use Rattle.sv_store.proofs.PurgeLaws.{refused-purge, removed-still, some-tried}
 use Rattle.sv_store.proofs.RemovalSteps.{dir_seen}
 use Rattle.sv_store.proofs.store.Store.purge.Goals as goal
@@ -20,6 +22,11 @@ returns-in-Err-clause-stops g c =
     refused-purge c.args.self.now.books.files (dir_seen files files faults faults)
     (record { same = refl; untouched = record { files = refl; faults = refl } }) c.in-Err.refusal
     (subst (λ (z : StoreSeen). IsDue (disabled z.books.files) c.in-Err.refusal) c.self.view_is c.in-Err.ensures.refused)
+
+pub returns-in-Err-clause-held : goal.returns-in-Err-clause-held
+returns-in-Err-clause-held g c =
+    let F = g.D.Dir.files c.args.dir.now in
+    subst (λ (z : StoreSeen). IsHeld z.books F → IsHeld z.books F) c.self.view_is (λ held. held)
 
 pub returns-in-Err-clause-none : goal.returns-in-Err-clause-none
 returns-in-Err-clause-none g c = λ no.
@@ -50,3 +57,15 @@ returns-clause-none g c = λ no.
           absurd ((subst (λ (z : StoreSeen). (n : ℕ) → IsReady z.books.files n → ⊥) (sym c.self.view_is) no) t.0
           ((c.in-Ok.ensures.ready.exact t.0).0 (subst (λ (l : List ℕ). In t.0 l) c.as_slice.ensures.value t.1)))
     ]
+
+pub returns-clause-held : goal.returns-clause-held
+returns-clause-held g c =
+    let k = c.remove_each in
+    let a = c.self.inside.state.books in
+    let b = k.new.state.books in
+    let F = g.D.Dir.files c.args.dir.now in
+    let G = g.D.Dir.files k.new.dir in
+    subst (λ (z : StoreSeen). IsHeld z.books F → IsHeld b G) c.self.view_is
+    (tried-held a b c.self.invariant.stands.sound.lawful k.ensures.follows F G (g.D.Dir.faults c.args.dir.now) (g.D.Dir.faults k.new.dir)
+    k.result c.as_slice.result.now
+    (subst (λ (l : List ℕ). AreInOrder (IsReady a.files) l) (sym c.as_slice.ensures.value) c.in-Ok.ensures.ready) k.ensures.all k.ensures.some)
