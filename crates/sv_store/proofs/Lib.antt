@@ -12,6 +12,7 @@ mod HandedNumbers
 mod HeldFlushes
 pub mod HeldLaws
 mod HeldPurges
+mod HeldScans
 mod LiveLaws
 mod OpeningLaws
 mod OutputLaws
