@@ -4,8 +4,10 @@ mod HandleLemmas
 mod HoldAnswers
 mod LiveAnswers
 mod PutAnswers
+mod QuietRefusals
 mod ReadAnswers
 mod RefusalCases
 mod ReleaseAnswers
+mod ScanAnswers
 mod SetAnswers
 mod WriteAnswers

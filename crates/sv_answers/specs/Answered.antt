@@ -28,3 +28,7 @@ IsHeld b told = (all : Files) → told ≡ Some all → LiveAreHeld b all
 pub record CountsReply (reply : Reply) (before now : ℕ) : Type 0 where
   pub later : before ≤ now
   pub rose : RoseBy (fault_by reply) before now
+
+-- the reply tells no failure of the directory
+abbrev pub TellsNoFault : Reply → Type 0
+TellsNoFault reply = fault_by reply ≡ 0

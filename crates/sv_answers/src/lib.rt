@@ -2,18 +2,22 @@
 //! leaves, whatever the lane was told before.
 #![tactic(auto)]
 
+mod answers;
 mod families;
 mod holds;
 mod listings;
 mod options;
 mod reads;
+mod scans;
 mod snapshots;
 mod writes;
 
+pub use answers::answer;
 pub use families::{create, drop_family, open, release};
 pub use holds::{hold, unhold};
 pub use listings::live;
 pub use options::set;
 pub use reads::{get, gets};
+pub use scans::scan;
 pub use snapshots::{snap, unsnap};
 pub use writes::{delete, put};

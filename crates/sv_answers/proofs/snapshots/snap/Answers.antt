@@ -1,5 +1,6 @@
 use Rattle.std.specs.Prelude.{Ok, Err}
 use Rattle.sv_answers.proofs.HoldAnswers.{snap-replies}
+use Rattle.sv_answers.proofs.QuietRefusals.{due-quiet, snap-quiet}
 use Rattle.sv_answers.proofs.snapshots.snap.Goals as goal
 
 pub returns-in-Ok-clause-answered : goal.returns-in-Ok-clause-answered
@@ -11,3 +12,6 @@ pub returns-in-Err-clause-answered : goal.returns-in-Err-clause-answered
 returns-in-Err-clause-answered c told k all =
     let x = c.in-Err.ensures in
     snap-replies told c.args.store.now c.snap.new.self x.follows k all (Err c.in-Err.refusal) x.made x.refused x.kept
+
+pub returns-in-Err-clause-quiet : goal.returns-in-Err-clause-quiet
+returns-in-Err-clause-quiet c = due-quiet _ (snap-quiet c.args.store.now.books.snapshots) c.in-Err.refusal c.in-Err.ensures.refused
