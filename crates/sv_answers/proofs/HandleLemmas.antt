@@ -37,7 +37,7 @@ any_has {A} p P means (x ∷ l) h = by (p x) refl (any_has p P means l)
     by true e rest = (zero, x, refl, means x e)
     by false e rest = let k = rest (sym (ap (λ b. b || list_any p l) e) ∙ h) in (suc k.0, k.1, k.2, k.3)
 
-both : (a b : Bool) → (a && b) ≡ true → (a ≡ true) × (b ≡ true)
+pub both : (a b : Bool) → (a && b) ≡ true → (a ≡ true) × (b ≡ true)
 both true b h = (refl, h)
 both false b h = let e : false ≡ true = h in absurd (cc)
 

@@ -1,8 +1,12 @@
 mod FamilyAnswers
+mod FlushAnswers
 mod GetsAnswers
 mod HandleLemmas
+mod HeldAnswers
 mod HoldAnswers
 mod LiveAnswers
+mod MidAnswers
+mod PurgeAnswers
 mod PutAnswers
 mod QuietRefusals
 mod ReadAnswers

@@ -1,6 +1,6 @@
 -- Refusals that tell no failure of the directory: those of the commands that ask nothing of it.
-use Rattle.std.proofs.Common.{◌≡◌, ◌≤◌, ◌==◌, ◌&&◌, ⊎_elim, ℕ, Bool, true, false, not, List, [], ◌∷◌, length, Option, Some, None, refl, sym, ap, subst, cond, ◌∙◌, arith}
-use Rattle.std.specs.Prelude.{Result, Err, nat_le}
+use Rattle.std.proofs.Common.{◌≡◌, ◌==◌, ◌&&◌, ⊎_elim, ℕ, Bool, true, false, not, List, [], ◌∷◌, length, Option, Some, None, refl, sym, ap, subst, cond, ◌∙◌, arith}
+use Rattle.std.specs.Prelude.{Err, nat_le}
 use Rattle.std.specs.List.{list_any}
 use Rattle.std.specs.Str.{bytes_eq}
 use Rattle.sv_model.specs.declared.keys.TheConstants.{MAX_KEY}
@@ -13,9 +13,7 @@ use Rattle.sv_model.specs.declared.records.SuperVersion.{SuperVersion}
 use Rattle.sv_model.specs.declared.refusals.Refusal.{Refusal}
 use Rattle.sv_model.specs.declared.refusals.Refusal.TheVariants as refusal
 use Rattle.sv_model.specs.declared.settings.OptionName.{OptionName}
-use Rattle.sv_model.specs.declared.settings.Options.{Options}
 use Rattle.sv_model.specs.declared.writes.Row.{Row}
-use Rattle.sv_model.specs.declared.writes.Write.{Write}
 use Rattle.sv_model.specs.Books.{Books}
 use Rattle.sv_model.specs.Families.{default_name, greatest_of}
 use Rattle.sv_model.specs.Lists.{bit, total}

@@ -1,5 +1,5 @@
 -- A put or a delete of the store, and the reply.
-use Rattle.std.proofs.Common.{◌≡◌, ◌⊎◌, inl, inr, ⊎_elim, ℕ, Bool, true, false, List, [], ◌∷◌, ◌++◌, length, map, Some, None, refl, sym, ◌∙◌, ap, subst, arith}
+use Rattle.std.proofs.Common.{◌≡◌, ◌⊎◌, inl, inr, ⊎_elim, ℕ, Bool, true, false, List, [], ◌∷◌, length, Some, None, refl, sym, ◌∙◌, ap, subst, arith}
 use Rattle.std.specs.Prelude.{Result, Ok, Err, nat_le}
 use Rattle.sv_model.specs.declared.refusals.Refusal.{Refusal}
 use Rattle.sv_model.specs.declared.refusals.Refusal.TheVariants as refusal
@@ -9,11 +9,10 @@ use Rattle.sv_model.specs.declared.writes.Write.{Write}
 use Rattle.sv_model.specs.declared.limits.TheConstants.{MAX_WRITES}
 use Rattle.sv_model.specs.After.{After}
 use Rattle.sv_model.specs.Books.{Books}
-use Rattle.sv_model.specs.Journal.{change_of, of_family}
+use Rattle.sv_model.specs.Journal.{of_family}
 use Rattle.sv_model.specs.Reads.{IsWrite}
 use Rattle.sv_model.specs.Steady.{Sound}
-use Rattle.sv_model.proofs.AfterLaws.{after-through}
-use Rattle.sv_laws.specs.Changes.{cleaned, switched, written}
+use Rattle.sv_laws.specs.Changes.{written}
 use Rattle.sv_laws.specs.Writes.{IsWritten}
 use Rattle.sv_laws.proofs.Kept.{sound-kept}
 use Rattle.sv_laws.proofs.OpenFamilies.{in-range}
@@ -26,22 +25,22 @@ use Rattle.sv_state.specs.Planning.{MeantAt, active_rows, is_switch_due, only_if
 use Rattle.sv_state.specs.Writing.{write_of}
 use Rattle.sv_store.specs.Seen.{StoreSeen}
 use Rattle.sv_store.specs.Writing.{Accepts, IsSwitchAlone, PutsAs, StopsAs, Switches, Writes}
+use Rattle.sv_store.proofs.EmptiedFamilies.{switch-follows}
 use Rattle.sv_script.specs.declared.commands.Command.{Command}
 use Rattle.sv_script.specs.declared.replies.Reply.{Reply}
 use Rattle.sv_script.specs.declared.replies.Reply.TheVariants as reply
 use Rattle.sv_replies.specs.Answers.{Answers, KnowsAll}
 use Rattle.sv_replies.specs.Due.{due, dropped_cause, first_of, handle_cause}
 use Rattle.sv_replies.specs.Known.{Known}
-use Rattle.sv_replies.specs.LanesFit.{change_asked}
 use Rattle.sv_replies.specs.PutLaw.{WriteMet}
 use Rattle.sv_replies.specs.ReplyFits.{Met, MayRunOut, ReplyFits}
 use Rattle.sv_replies.specs.Settings.{Setting}
-use Rattle.sv_replies.proofs.AnswersLaws.{KeepsAll, all-kept, keeps-books, keeps-same, refused-answers, same-known}
-use Rattle.sv_replies.proofs.KnowsLaws.{knows-later}
+use Rattle.sv_replies.proofs.AnswersLaws.{KeepsAll, keeps-books, keeps-same, refused-answers}
 use Rattle.sv_replies.proofs.MetLaws.{fits_met}
 use Rattle.sv_replies.proofs.MomentLemmas.{was-stalled}
 use Rattle.sv_answers.specs.Answered.{alone}
 use Rattle.sv_answers.proofs.HandleLemmas.{change-fits, meant-free, meant-handle}
+use Rattle.sv_answers.proofs.MidAnswers.{answers-after, knows-kept}
 use Rattle.sv_answers.proofs.RefusalCases.{due-or, first-or, is-full, is-many_memtables, last-due, test-due}
 
 -- ---- a switch keeps what lanes have of their own
@@ -55,12 +54,6 @@ switched-keeps lane f a b w =
     (ap (λ (z : Books). z.files.holds) g ∙ ap (λ (z : Books). z.files.holds) i)
     (ap (λ (z : Books). z.journal) g ∙ ap (λ (z : Books). z.journal) i)
     (ap (λ (z : Books). z.snapshots) g ∙ ap (λ (z : Books). z.snapshots) i)
-
-switched-after : (f : ℕ) (a b : Books) → Sound a → Switches f a b → Sound b × After a b
-switched-after f a b sound w =
-    let m = sound-kept a w.mid sound (switched f w.is) in
-    let n = sound-kept w.mid b m.0 (cleaned w.goes.s w.goes.x w.goes.cleaned) in
-    (n.0, after-through a w.mid b m.1 n.1)
 
 -- ---- refusals of the moment
 
@@ -169,14 +162,10 @@ module _ (told : Bool) (a b : StoreSeen) (sound : Sound a.books) (next : Follows
   put-as false f row n key_is op_is has none h = accepted a.books b.books row n f all next.after key_is op_is has none h
   put-as true f row n key_is op_is has none (m, w, h) =
       let keeps = switched-keeps 0 f a.books m w in
-      let mid = switched-after f a.books m sound w in
-      let later = sound-kept m b.books mid.0 (written f (write_of 0 f h.mem row) h.written) in
-      let x = accepted m b.books row n f (all-kept s a.books m k k keeps (same-known k) (knows-later a.books m k mid.1 all.knows) all) later.1 key_is op_is has none h in
-      record {
-        fits = x.fits;
-        still = x.still;
-        asked = x.asked ∙ ap (λ (l : List Write). map change_of l ++ change_asked k c (number n)) keeps.own.writes;
-      }
+      let mid = switch-follows f a.books m sound w in
+      let later = sound-kept m b.books mid.sound (written f (write_of 0 f h.mem row) h.written) in
+      answers-after s a.books m k keeps b.books c (number n)
+      (accepted m b.books row n f (knows-kept s a.books m k keeps mid.after all) later.1 key_is op_is has none h)
 
   pub write-answers : (r : Result ℕ Refusal) (row : Row) → row.key ≡ key → row.op ≡ o → Writes a b name row r
       → Answers s a.books b.books k c (replied number r)

@@ -1,12 +1,15 @@
 -- What the one lane is answered.
-use Rattle.std.specs.Prelude.{◌≡◌, ◌≤◌, ℕ, Bool, Option, Some}
-use Rattle.sv_model.specs.Books.{Books}
+use Rattle.std.specs.Prelude.{◌≡◌, ◌≤◌, ℕ, Bool}
+use Rattle.sv_model.specs.Books.{Books, FileRegister}
 use Rattle.sv_model.specs.Faults.{RoseBy}
-use Rattle.sv_model.specs.Files.{Files}
-use Rattle.sv_model.specs.HeldFiles.{LiveAreHeld}
+pub use Rattle.sv_store.specs.HeldFiles.{IsHeld, KeepsHeld}
+use Rattle.sv_store.specs.Purging.{PurgeStops, Purges}
+use Rattle.sv_store.specs.Removals.{DirSeen}
+use Rattle.sv_store.specs.Scanning.{ScanStops, Scans}
 use Rattle.sv_script.specs.Answered.{fault_by}
 use Rattle.sv_script.specs.declared.commands.Command.{Command}
 use Rattle.sv_script.specs.declared.replies.Reply.{Reply}
+use Rattle.sv_script.specs.declared.replies.Reply.TheVariants as reply
 use Rattle.sv_replies.specs.Answers.{Answers, KnowsAll}
 use Rattle.sv_replies.specs.Known.{Known}
 use Rattle.sv_replies.specs.Settings.{Setting}
@@ -20,10 +23,6 @@ alone told = record { lane = 0; lanes = 1; told = told }
 abbrev pub IsAnswered : Bool → Books → Books → Command → Reply → Type 0
 IsAnswered told a b command reply = (k : Known) → KnowsAll (alone told) a k → Answers (alone told) a b k command reply
 
--- each Live number has the file that was written, where the directory tells its files
-abbrev pub IsHeld : Books → Option Files → Type 0
-IsHeld b told = (all : Files) → told ≡ Some all → LiveAreHeld b all
-
 -- The directory's count of its failures never falls, and rose where the reply says that it failed.
 pub record CountsReply (reply : Reply) (before now : ℕ) : Type 0 where
   pub later : before ≤ now
@@ -32,3 +31,15 @@ pub record CountsReply (reply : Reply) (before now : ℕ) : Type 0 where
 -- the reply tells no failure of the directory
 abbrev pub TellsNoFault : Reply → Type 0
 TellsNoFault reply = fault_by reply ≡ 0
+
+-- what a purge did to the file register and the directory, as its reply tells it
+abbrev pub TellsPurge : FileRegister → FileRegister → DirSeen → Reply → Type 0
+TellsPurge old new d (reply.Purge numbers) = Purges old new d numbers
+TellsPurge old new d (reply.Refused e) = PurgeStops old new d e
+TellsPurge old new d r = ⊥
+
+-- the same of a scan
+abbrev pub TellsScan : FileRegister → FileRegister → DirSeen → Reply → Type 0
+TellsScan old new d (reply.Scan numbers) = Scans old new d numbers
+TellsScan old new d (reply.Refused e) = ScanStops old new d e
+TellsScan old new d r = ⊥

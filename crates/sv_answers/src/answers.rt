@@ -1,13 +1,15 @@
 // The answer of the one lane to a command.
 ghost use Rattle.std.specs.Prelude.{Bool, is_some};
 ghost use Rattle.sv_state.specs.Follows.{Follows};
-ghost use Rattle.sv_answers.specs.Answered.{CountsReply, IsAnswered, IsHeld, TellsNoFault};
+ghost use Rattle.sv_answers.specs.Answered.{CountsReply, IsAnswered, IsHeld, KeepsHeld, TellsNoFault};
 ghost use Rattle.sv_answers.specs.Run.{AsksNone, IsRun};
 
 use crate::families::{create, drop_family, open, release};
+use crate::flushes::flush;
 use crate::holds::{hold, unhold};
 use crate::listings::live;
 use crate::options::set;
+use crate::purges::purge;
 use crate::reads::{get, gets};
 use crate::scans::scan;
 use crate::snapshots::{snap, unsnap};
@@ -22,6 +24,7 @@ fn answer_in_memory(alloc: Global, store: &mut Store, command: &Command) -> Repl
     requires { AsksNone command.now }
     ensures answered { (told : Bool) → IsAnswered told store.old.books store.new.books command.now result }
     ensures quiet { TellsNoFault result }
+    ensures held { KeepsHeld store.old.books store.new.books }
     ensures follows { Follows store.old.books store.new.books }
 {
     store.laws();
@@ -53,6 +56,7 @@ pub fn answer<D: Dir>(alloc: Global, store: &mut Store, dir: &mut D, command: &C
     requires built { IsRun command.now }
     ensures answered { IsHeld store.old.books (D.files dir.old) → IsAnswered (is_some (D.files dir.old)) store.old.books store.new.books command.now result }
     ensures faults { CountsReply result (D.faults dir.old) (D.faults dir.new) }
+    ensures held { IsHeld store.old.books (D.files dir.old) → IsHeld store.new.books (D.files dir.new) }
     ensures follows { Follows store.old.books store.new.books }
 {
     store.laws();
@@ -63,6 +67,8 @@ pub fn answer<D: Dir>(alloc: Global, store: &mut Store, dir: &mut D, command: &C
             family,
             key,
         } => gets(alloc, store, dir, *snapshot, family, key.as_slice()),
+        Command::Flush(family) => flush(store, dir, family),
+        Command::Purge => purge(store, dir),
         Command::Scan => scan(store, dir),
         _ => answer_in_memory(alloc, store, command),
     }

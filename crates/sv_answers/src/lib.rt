@@ -4,9 +4,11 @@
 
 mod answers;
 mod families;
+mod flushes;
 mod holds;
 mod listings;
 mod options;
+mod purges;
 mod reads;
 mod scans;
 mod snapshots;
@@ -14,9 +16,11 @@ mod writes;
 
 pub use answers::answer;
 pub use families::{create, drop_family, open, release};
+pub use flushes::flush;
 pub use holds::{hold, unhold};
 pub use listings::live;
 pub use options::set;
+pub use purges::purge;
 pub use reads::{get, gets};
 pub use scans::scan;
 pub use snapshots::{snap, unsnap};

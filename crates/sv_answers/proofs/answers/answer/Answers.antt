@@ -16,5 +16,16 @@ returns-in_default g c =
     record {
       answered = λ held. x.ensures.answered (is_some (g.D.Dir.files c.args.dir.now));
       faults = counts-quiet x.result (g.D.Dir.faults c.args.dir.now) x.ensures.quiet;
+      held = x.ensures.held (g.D.Dir.files c.args.dir.now);
       follows = x.ensures.follows;
     }
+
+pub returns-in-Flush-clause-answered : goal.returns-in-Flush-clause-answered
+returns-in-Flush-clause-answered g c held k all =
+    let told = is_some (g.D.Dir.files c.args.dir.now) in
+    subst (λ (z : Command). Answers (alone told) c.args.store.now.books c.flush.new.store.books k z c.flush.result) (sym c.in-Flush.is) (c.flush.ensures.answered told k all)
+
+pub returns-in-Purge-clause-answered : goal.returns-in-Purge-clause-answered
+returns-in-Purge-clause-answered g c held k all =
+    let told = is_some (g.D.Dir.files c.args.dir.now) in
+    subst (λ (z : Command). Answers (alone told) c.args.store.now.books c.purge.new.store.books k z c.purge.result) (sym c.in-Purge.is) (c.purge.ensures.answered told k all)

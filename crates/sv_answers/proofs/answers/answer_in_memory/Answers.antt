@@ -5,7 +5,7 @@ use Rattle.sv_script.specs.declared.commands.Command.TheVariants as command
 use Rattle.sv_state.specs.Follows.{Follows}
 use Rattle.sv_store.specs.Seen.{StoreSeen}
 use Rattle.sv_replies.specs.Answers.{Answers}
-use Rattle.sv_answers.specs.Answered.{alone}
+use Rattle.sv_answers.specs.Answered.{KeepsHeld, alone}
 use Rattle.sv_answers.proofs.answers.answer_in_memory.Goals as goal
 
 pub returns-in-Put-clause-answered : goal.returns-in-Put-clause-answered
@@ -69,3 +69,8 @@ pub returns-in-Live-clause-follows : goal.returns-in-Live-clause-follows
 returns-in-Live-clause-follows c =
     let a = c.args.store.now.books in
     subst (λ (z : StoreSeen). Follows a z.books) (sym c.live.ensures.kept) (record { sound = c.laws.ensures.rests.stands.sound; after = after-itself a })
+
+pub returns-in-Live-clause-held : goal.returns-in-Live-clause-held
+returns-in-Live-clause-held c =
+    let a = c.args.store.now.books in
+    subst (λ (z : StoreSeen). KeepsHeld a z.books) (sym c.live.ensures.kept) (λ told held. held)

@@ -1,4 +1,7 @@
+use Rattle.std.proofs.Common.{ap}
 use Rattle.std.specs.Prelude.{Ok, Err}
+use Rattle.sv_model.specs.Books.{Books}
+use Rattle.sv_answers.proofs.HeldAnswers.{numbers-held, same-held}
 use Rattle.sv_answers.proofs.FamilyAnswers.{drop-replies}
 use Rattle.sv_answers.proofs.QuietRefusals.{drop-quiet, exactly-quiet}
 use Rattle.sv_answers.proofs.families.drop_family.Goals as goal
@@ -15,3 +18,13 @@ returns-in-Err-clause-answered c told k all =
 
 pub returns-in-Err-clause-quiet : goal.returns-in-Err-clause-quiet
 returns-in-Err-clause-quiet c = exactly-quiet _ (drop-quiet c.args.store.now.books.families c.args.name.now) c.in-Err.refusal c.in-Err.ensures.refused
+
+pub returns-in-Ok-clause-held : goal.returns-in-Ok-clause-held
+returns-in-Ok-clause-held c =
+    let x = c.in-Ok.ensures in
+    numbers-held c.args.store.now c.drop_family.new.self c.laws.ensures.rests.stands.sound x.follows (ap (λ (z : Books). z.files.numbers) x.dropped.is)
+
+pub returns-in-Err-clause-held : goal.returns-in-Err-clause-held
+returns-in-Err-clause-held c =
+    let x = c.in-Err.ensures in
+    same-held c.args.store.now c.drop_family.new.self c.laws.ensures.rests.stands.sound x.follows x.kept

@@ -1,4 +1,5 @@
 use Rattle.std.specs.Prelude.{Ok, Err}
+use Rattle.sv_answers.proofs.HeldAnswers.{release-held, same-held}
 use Rattle.sv_answers.proofs.ReleaseAnswers.{release-replies}
 use Rattle.sv_answers.proofs.QuietRefusals.{exactly-quiet, release-quiet}
 use Rattle.sv_answers.proofs.families.release.Goals as goal
@@ -15,3 +16,13 @@ returns-in-Err-clause-answered c told k all =
 
 pub returns-in-Err-clause-quiet : goal.returns-in-Err-clause-quiet
 returns-in-Err-clause-quiet c = exactly-quiet _ (release-quiet c.args.store.now.books.families c.args.name.now) c.in-Err.refusal c.in-Err.ensures.refused
+
+pub returns-in-Ok-clause-held : goal.returns-in-Ok-clause-held
+returns-in-Ok-clause-held c =
+    let x = c.in-Ok.ensures in
+    release-held c.args.store.now c.release.new.self c.laws.ensures.rests.stands.sound x.follows c.args.name.now x.released
+
+pub returns-in-Err-clause-held : goal.returns-in-Err-clause-held
+returns-in-Err-clause-held c =
+    let x = c.in-Err.ensures in
+    same-held c.args.store.now c.release.new.self c.laws.ensures.rests.stands.sound x.follows x.kept

@@ -1,4 +1,7 @@
+use Rattle.std.proofs.Common.{ap}
 use Rattle.std.specs.Prelude.{Ok, Err}
+use Rattle.sv_model.specs.Books.{FileRegister}
+use Rattle.sv_answers.proofs.HeldAnswers.{numbers-held, same-held}
 use Rattle.sv_answers.proofs.HoldAnswers.{unhold-replies}
 use Rattle.sv_answers.proofs.QuietRefusals.{exactly-quiet, unhold-quiet}
 use Rattle.sv_answers.proofs.holds.unhold.Goals as goal
@@ -15,3 +18,13 @@ returns-in-Err-clause-answered c told k all =
 
 pub returns-in-Err-clause-quiet : goal.returns-in-Err-clause-quiet
 returns-in-Err-clause-quiet c = exactly-quiet _ (unhold-quiet _) c.in-Err.refusal c.in-Err.ensures.refused
+
+pub returns-in-Ok-clause-held : goal.returns-in-Ok-clause-held
+returns-in-Ok-clause-held c =
+    let x = c.in-Ok.ensures in
+    numbers-held c.args.store.now c.unhold.new.self c.laws.ensures.rests.stands.sound x.follows (ap (λ (z : FileRegister). z.numbers) x.ended.1)
+
+pub returns-in-Err-clause-held : goal.returns-in-Err-clause-held
+returns-in-Err-clause-held c =
+    let x = c.in-Err.ensures in
+    same-held c.args.store.now c.unhold.new.self c.laws.ensures.rests.stands.sound x.follows x.kept

@@ -1,4 +1,5 @@
 use Rattle.std.specs.Prelude.{Ok, Err}
+use Rattle.sv_answers.proofs.HeldAnswers.{same-held, set-held}
 use Rattle.sv_answers.proofs.SetAnswers.{set-replies}
 use Rattle.sv_answers.proofs.QuietRefusals.{due-quiet, set-quiet}
 use Rattle.sv_answers.proofs.options.set.Goals as goal
@@ -17,3 +18,13 @@ returns-in-Err-clause-answered c told k all =
 
 pub returns-in-Err-clause-quiet : goal.returns-in-Err-clause-quiet
 returns-in-Err-clause-quiet c = due-quiet _ (set-quiet c.args.store.now.books.families c.args.name.now c.args.option c.args.value c.args.store.now.books.supers) c.in-Err.refusal c.in-Err.ensures.refused
+
+pub returns-in-Ok-clause-held : goal.returns-in-Ok-clause-held
+returns-in-Ok-clause-held c =
+    let x = c.in-Ok.ensures in
+    set-held c.args.store.now c.set.new.self c.laws.ensures.rests.stands.sound x.follows c.args.name.now c.args.option c.args.value _ x.set
+
+pub returns-in-Err-clause-held : goal.returns-in-Err-clause-held
+returns-in-Err-clause-held c =
+    let x = c.in-Err.ensures in
+    same-held c.args.store.now c.set.new.self c.laws.ensures.rests.stands.sound x.follows x.kept

@@ -3,6 +3,7 @@ use Rattle.sv_script.specs.declared.commands.Command.TheVariants as command
 use Rattle.sv_script.specs.declared.replies.Reply.TheVariants as reply
 use Rattle.sv_replies.specs.Answers.{Answers}
 use Rattle.sv_store.specs.Removals.{DirSeen}
+use Rattle.sv_store.specs.Scanning.{Scans}
 use Rattle.sv_answers.specs.Answered.{CountsReply, alone}
 use Rattle.sv_answers.proofs.ScanAnswers.{refused-counts, scan-refused, scan-shown, shown-counts}
 use Rattle.sv_answers.proofs.scans.scan.Goals as goal
@@ -32,3 +33,8 @@ pub returns-in-Err-clause-faults : goal.returns-in-Err-clause-faults
 returns-in-Err-clause-faults g c =
     let d : DirSeen = record { files = g.D.Dir.files c.args.dir.now; later = g.D.Dir.files c.scan.new.dir; before = g.D.Dir.faults c.args.dir.now; now = g.D.Dir.faults c.scan.new.dir } in
     refused-counts c.args.store.now.books.files c.scan.new.self.books.files d c.in-Err.refusal c.in-Err.ensures.stops
+
+pub returns-in-Ok-clause-scanned : goal.returns-in-Ok-clause-scanned
+returns-in-Ok-clause-scanned g c =
+    let d : DirSeen = record { files = g.D.Dir.files c.args.dir.now; later = g.D.Dir.files c.scan.new.dir; before = g.D.Dir.faults c.args.dir.now; now = g.D.Dir.faults c.scan.new.dir } in
+    subst (λ (numbers : List ℕ). Scans c.args.store.now.books.files c.scan.new.self.books.files d numbers) (sym c.from_vec.ensures) c.in-Ok.ensures.scanned

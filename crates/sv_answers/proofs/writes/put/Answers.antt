@@ -3,6 +3,7 @@ use Rattle.std.specs.Prelude.{Ok, Err}
 use Rattle.sv_model.specs.declared.writes.Op.TheVariants as op
 use Rattle.sv_script.specs.declared.commands.Command.TheVariants as command
 use Rattle.sv_script.specs.declared.replies.Reply.TheVariants as reply
+use Rattle.sv_answers.proofs.HeldAnswers.{write-held}
 use Rattle.sv_answers.proofs.PutAnswers.{put-is, row-free}
 use Rattle.sv_answers.proofs.WriteAnswers.{write-answers}
 use Rattle.sv_answers.proofs.QuietRefusals.{due-quiet, row-quiet, write-quiet}
@@ -37,3 +38,13 @@ returns-in-Err-put-clause-quiet c =
 
 pub returns-in-Err-clause-quiet : goal.returns-in-Err-clause-quiet
 returns-in-Err-clause-quiet c = due-quiet _ (row-quiet (length c.args.key.now) (length c.args.value.now)) c.in-Err.refusal c.in-Err.ensures.refused
+
+pub returns-in-Ok-put-clause-held : goal.returns-in-Ok-put-clause-held
+returns-in-Ok-put-clause-held c =
+    write-held c.args.store.now c.put.new.self c.laws.ensures.rests.stands.sound c.put.ensures.follows
+    c.args.name.now (record { key = c.in-Ok.key; op = op.Put c.in-Ok.value }) (Ok c.in-Ok-put.number) c.in-Ok-put.ensures.writes
+
+pub returns-in-Err-put-clause-held : goal.returns-in-Err-put-clause-held
+returns-in-Err-put-clause-held c =
+    write-held c.args.store.now c.put.new.self c.laws.ensures.rests.stands.sound c.put.ensures.follows
+    c.args.name.now (record { key = c.in-Ok.key; op = op.Put c.in-Ok.value }) (Err c.in-Err-put.refusal) c.in-Err-put.ensures.writes

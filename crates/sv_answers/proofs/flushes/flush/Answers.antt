@@ -1,0 +1,15 @@
+use Rattle.std.specs.Prelude.{Ok, Err}
+use Rattle.sv_answers.proofs.FlushAnswers.{flush-replies}
+use Rattle.sv_answers.proofs.flushes.flush.Goals as goal
+
+pub returns-in-Ok-clause-answered : goal.returns-in-Ok-clause-answered
+returns-in-Ok-clause-answered g c told k all =
+    let x = c.in-Ok.ensures in
+    flush-replies told c.args.store.now c.flush.new.self c.laws.ensures.rests x.follows k all c.args.name.now
+    (g.D.Dir.files c.args.dir.now) (g.D.Dir.files c.flush.new.dir) (Ok c.in-Ok.file) x.flushed x.refused
+
+pub returns-in-Err-clause-answered : goal.returns-in-Err-clause-answered
+returns-in-Err-clause-answered g c told k all =
+    let x = c.in-Err.ensures in
+    flush-replies told c.args.store.now c.flush.new.self c.laws.ensures.rests x.follows k all c.args.name.now
+    (g.D.Dir.files c.args.dir.now) (g.D.Dir.files c.flush.new.dir) (Err c.in-Err.refusal) x.flushed x.refused
