@@ -9,8 +9,10 @@ mod LiveAnswers
 mod MidAnswers
 mod PurgeAnswers
 mod PutAnswers
+mod QuietRefusals
 mod ReadAnswers
 mod RefusalCases
 mod ReleaseAnswers
+mod ScanAnswers
 mod SetAnswers
 mod WriteAnswers

@@ -1,10 +1,11 @@
 -- What the one lane is answered.
-use Rattle.std.specs.Prelude.{◌≤◌, ℕ, Bool}
+use Rattle.std.specs.Prelude.{◌≡◌, ◌≤◌, ℕ, Bool}
 use Rattle.sv_model.specs.Books.{Books, FileRegister}
 use Rattle.sv_model.specs.Faults.{RoseBy}
 pub use Rattle.sv_store.specs.HeldFiles.{IsHeld, KeepsHeld}
 use Rattle.sv_store.specs.Purging.{PurgeStops, Purges}
 use Rattle.sv_store.specs.Removals.{DirSeen}
+use Rattle.sv_store.specs.Scanning.{ScanStops, Scans}
 use Rattle.sv_script.specs.Answered.{fault_by}
 use Rattle.sv_script.specs.declared.commands.Command.{Command}
 use Rattle.sv_script.specs.declared.replies.Reply.{Reply}
@@ -27,8 +28,18 @@ pub record CountsReply (reply : Reply) (before now : ℕ) : Type 0 where
   pub later : before ≤ now
   pub rose : RoseBy (fault_by reply) before now
 
+-- the reply tells no failure of the directory
+abbrev pub TellsNoFault : Reply → Type 0
+TellsNoFault reply = fault_by reply ≡ 0
+
 -- what a purge did to the file register and the directory, as its reply tells it
 abbrev pub TellsPurge : FileRegister → FileRegister → DirSeen → Reply → Type 0
 TellsPurge old new d (reply.Purge numbers) = Purges old new d numbers
 TellsPurge old new d (reply.Refused e) = PurgeStops old new d e
 TellsPurge old new d r = ⊥
+
+-- the same of a scan
+abbrev pub TellsScan : FileRegister → FileRegister → DirSeen → Reply → Type 0
+TellsScan old new d (reply.Scan numbers) = Scans old new d numbers
+TellsScan old new d (reply.Refused e) = ScanStops old new d e
+TellsScan old new d r = ⊥

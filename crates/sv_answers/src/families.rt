@@ -2,7 +2,7 @@
 ghost use Rattle.std.specs.Prelude.{Bool};
 ghost use Rattle.sv_script.specs.declared.commands.Command.TheVariants as command;
 ghost use Rattle.sv_state.specs.Follows.{Follows};
-ghost use Rattle.sv_answers.specs.Answered.{IsAnswered, KeepsHeld};
+ghost use Rattle.sv_answers.specs.Answered.{IsAnswered, KeepsHeld, TellsNoFault};
 
 use sv_model::Name;
 use sv_script::Reply;
@@ -11,6 +11,7 @@ use sv_store::Store;
 /// Answers `create`.
 pub fn create(store: &mut Store, name: &Name) -> Reply
     ensures answered { (told : Bool) → IsAnswered told store.old.books store.new.books (command.Create name.now) result }
+    ensures quiet { TellsNoFault result }
     ensures held { KeepsHeld store.old.books store.new.books }
     ensures follows { Follows store.old.books store.new.books }
 {
@@ -24,6 +25,7 @@ pub fn create(store: &mut Store, name: &Name) -> Reply
 /// Answers `open`.
 pub fn open(store: &mut Store, name: &Name) -> Reply
     ensures answered { (told : Bool) → IsAnswered told store.old.books store.new.books (command.Open name.now) result }
+    ensures quiet { TellsNoFault result }
     ensures held { KeepsHeld store.old.books store.new.books }
     ensures follows { Follows store.old.books store.new.books }
 {
@@ -37,6 +39,7 @@ pub fn open(store: &mut Store, name: &Name) -> Reply
 /// Answers `release`.
 pub fn release(store: &mut Store, name: &Name) -> Reply
     ensures answered { (told : Bool) → IsAnswered told store.old.books store.new.books (command.Release name.now) result }
+    ensures quiet { TellsNoFault result }
     ensures held { KeepsHeld store.old.books store.new.books }
     ensures follows { Follows store.old.books store.new.books }
 {
@@ -50,6 +53,7 @@ pub fn release(store: &mut Store, name: &Name) -> Reply
 /// Answers `drop`.
 pub fn drop_family(store: &mut Store, name: &Name) -> Reply
     ensures answered { (told : Bool) → IsAnswered told store.old.books store.new.books (command.Drop name.now) result }
+    ensures quiet { TellsNoFault result }
     ensures held { KeepsHeld store.old.books store.new.books }
     ensures follows { Follows store.old.books store.new.books }
 {

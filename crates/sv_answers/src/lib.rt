@@ -3,6 +3,7 @@
 #![tactic(auto)]
 
 mod compactions;
+mod answers;
 mod families;
 mod flushes;
 mod holds;
@@ -10,10 +11,12 @@ mod listings;
 mod options;
 mod purges;
 mod reads;
+mod scans;
 mod snapshots;
 mod writes;
 
 pub use compactions::compact;
+pub use answers::answer;
 pub use families::{create, drop_family, open, release};
 pub use flushes::flush;
 pub use holds::{hold, unhold};
@@ -21,5 +24,6 @@ pub use listings::live;
 pub use options::set;
 pub use purges::purge;
 pub use reads::{get, gets};
+pub use scans::scan;
 pub use snapshots::{snap, unsnap};
 pub use writes::{delete, put};

@@ -19,9 +19,11 @@ mod FlushedLaws
 mod FrameLaws
 mod LeftNumbers
 mod HeldCompactions
+mod HandedNumbers
 mod HeldFlushes
 pub mod HeldLaws
 mod HeldPurges
+mod HeldScans
 mod LiveLaws
 mod OpeningLaws
 mod OutputLaws
@@ -37,6 +39,8 @@ mod RemovalMarks
 pub mod RemovalSteps
 mod RemovedFiles
 mod RetireLaws
+pub mod ScanLaws
+mod ScanSteps
 mod StandLaws
 mod StillLaws
 mod SwitchLaws

@@ -1,5 +1,5 @@
 -- A purge, one number after the other.
-use Rattle.std.proofs.Common.{◌≡◌, ◌≤◌, ◌++◌, ◌∷◌, ℕ, List, [], Option, Some, None, Result, Ok, Err, refl, ap, ◌∙◌, subst}
+use Rattle.std.proofs.Common.{◌≡◌, ◌≤◌, ◌++◌, ◌∷◌, ℕ, List, [], Option, None, Result, Ok, Err, refl, ap, ◌∙◌}
 use Rattle.std.specs.Prelude.{IfSome, OnOk, OnErr}
 use Rattle.sv_model.specs.declared.records.FileStatus.TheVariants.{Gone, Obsolete}
 use Rattle.sv_model.specs.declared.refusals.Refusal.{Refusal}
@@ -18,7 +18,7 @@ use Rattle.sv_state.specs.Seen.{StateSeen}
 use Rattle.sv_store.specs.Removals.{DirSeen, Removes, RemovesSome, refused_after, with_gone}
 use Rattle.sv_store.proofs.EndedNumbers.{gone-more, none-gone}
 use Rattle.sv_store.proofs.RemovalMarks.{only-through}
-use Rattle.sv_store.proofs.RemovalSteps.{Passed, dir_seen, none-passed, passed-gone, passed-left}
+use Rattle.sv_store.proofs.RemovalSteps.{Passed, all-gone, dir_seen, none-passed, passed-gone, passed-left, some-stay}
 use Rattle.sv_store.proofs.StandLaws.{follows-through}
 
 -- the numbers that were tried so far
@@ -72,18 +72,9 @@ module _ (old mid new : StateSeen) (files between last : Option Files) (before f
   }
 
 -- ---- all were tried
-module _ (old now : StateSeen) (d : DirSeen) (tried : List ℕ) where
-  pub all-removed : (refused : Option Refusal) → PurgedUpTo old now d tried refused → refused ≡ None → Removes old.books.files now.books.files d tried tried []
-  all-removed None h q =
-      subst (λ (z : List ℕ × List ℕ). Removes old.books.files now.books.files d tried z.0 z.1) (λ i. (h.passed.answer.1 i, h.passed.answer.0 i))
-      (record { tried = h.passed.are; is = h.is; files = h.passed.files; later = h.passed.later })
-  all-removed (Some e) h q = absurd (cc)
+module _ (old now : StateSeen) (d : DirSeen) (tried : List ℕ) (refused : Option Refusal) (h : PurgedUpTo old now d tried refused) where
+  pub all-removed : refused ≡ None → Removes old.books.files now.books.files d tried tried []
+  all-removed q = all-gone old.books.files now.books.files d tried h.gone h.left h.is refused h.passed q
 
-  pub some-left : (refused : Option Refusal) → PurgedUpTo old now d tried refused → IfSome refused (RemovesSome old.books.files now.books.files d tried)
-  some-left None h = tt
-  some-left (Some e) h = record {
-    gone = h.gone;
-    left = h.left;
-    removes = record { tried = h.passed.are; is = h.is; files = h.passed.files; later = h.passed.later };
-    answer = h.passed.answer;
-  }
+  pub some-left : IfSome refused (RemovesSome old.books.files now.books.files d tried)
+  some-left = some-stay old.books.files now.books.files d tried h.gone h.left h.is refused h.passed

@@ -4,6 +4,8 @@ use Rattle.std.proofs.lemmas.List.{take_more}
 use Rattle.std.proofs.lemmas.Option.{slice_get_read}
 use Rattle.sv_model.specs.declared.refusals.Refusal.{Refusal}
 use Rattle.sv_model.specs.declared.refusals.Refusal.TheVariants as refusal
+use Rattle.std.specs.Prelude.{IfSome}
+use Rattle.sv_model.specs.Books.{FileRegister}
 use Rattle.sv_model.specs.Faults.{HasCauseOf, Rose, RoseBy}
 use Rattle.sv_model.specs.Files.{Files}
 use Rattle.sv_model.specs.Lists.{In}
@@ -14,7 +16,7 @@ use Rattle.sv_dir.specs.declared.dir.DirError.{DirError}
 use Rattle.sv_dir.specs.declared.dir.DirError.TheVariants as dir_error
 use Rattle.sv_dir.specs.declared.dir.Removal.{Removal}
 use Rattle.sv_dir.specs.Files.{MayRemove, RemovesFile}
-use Rattle.sv_store.specs.Removals.{AreTried, DirSeen, FilesGoIfTold, LeftAs, refused_after}
+use Rattle.sv_store.specs.Removals.{AreTried, DirSeen, FilesGoIfTold, LeftAs, Removes, RemovesSome, refused_after, with_gone}
 use Rattle.sv_store.proofs.RemovedFiles.{files-gone, files-left, nothing-goes}
 use Rattle.sv_store.proofs.TriedNumbers.{gone-tried, left-tried, none-tried}
 
@@ -120,3 +122,20 @@ module _ (files mid last : Option Files) (before now after : ℕ) (tried gone le
       answers dir_error.OutOfMemory w a rose = one-more
       answers dir_error.Failed None a rose = first-fault a.0 (rose refl)
       answers dir_error.Failed (Some w) a rose = one-fault-more w a (rose refl)
+
+-- ---- all were tried
+module _ (old new : FileRegister) (d : DirSeen) (tried gone left : List ℕ) (is : new ≡ with_gone old gone) where
+  pub all-gone : (refused : Option Refusal) → Passed d tried gone left refused → refused ≡ None → Removes old new d tried tried []
+  all-gone None h q =
+      subst (λ (z : List ℕ × List ℕ). Removes old new d tried z.0 z.1) (λ i. (h.answer.1 i, h.answer.0 i))
+      (record { tried = h.are; is = is; files = h.files; later = h.later })
+  all-gone (Some e) h q = absurd (cc)
+
+  pub some-stay : (refused : Option Refusal) → Passed d tried gone left refused → IfSome refused (RemovesSome old new d tried)
+  some-stay None h = tt
+  some-stay (Some e) h = record {
+    gone = gone;
+    left = left;
+    removes = record { tried = h.are; is = is; files = h.files; later = h.later };
+    answer = h.answer;
+  }

@@ -14,6 +14,7 @@ pub mod Purging
 pub mod Reading
 pub mod Releasing
 pub mod Removals
+pub mod Scanning
 pub mod Seen
 pub mod Setting
 pub mod Standing

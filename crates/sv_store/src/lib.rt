@@ -23,6 +23,7 @@ mod purges;
 mod reads;
 mod releases;
 mod removals;
+mod scans;
 mod snapshots;
 mod store;
 mod summaries;

@@ -3,6 +3,7 @@ use Rattle.std.specs.Prelude.{Ok, Err}
 use Rattle.sv_model.specs.Books.{Books}
 use Rattle.sv_answers.proofs.HeldAnswers.{numbers-held, same-held}
 use Rattle.sv_answers.proofs.FamilyAnswers.{drop-replies}
+use Rattle.sv_answers.proofs.QuietRefusals.{drop-quiet, exactly-quiet}
 use Rattle.sv_answers.proofs.families.drop_family.Goals as goal
 
 pub returns-in-Ok-clause-answered : goal.returns-in-Ok-clause-answered
@@ -14,6 +15,9 @@ pub returns-in-Err-clause-answered : goal.returns-in-Err-clause-answered
 returns-in-Err-clause-answered c told k all =
     let x = c.in-Err.ensures in
     drop-replies told c.args.store.now c.drop_family.new.self x.follows k all c.args.name.now (Err c.in-Err.refusal) x.dropped x.own x.refused x.kept
+
+pub returns-in-Err-clause-quiet : goal.returns-in-Err-clause-quiet
+returns-in-Err-clause-quiet c = exactly-quiet _ (drop-quiet c.args.store.now.books.families c.args.name.now) c.in-Err.refusal c.in-Err.ensures.refused
 
 pub returns-in-Ok-clause-held : goal.returns-in-Ok-clause-held
 returns-in-Ok-clause-held c =

@@ -1,6 +1,7 @@
 use Rattle.std.specs.Prelude.{Ok, Err}
 use Rattle.sv_answers.proofs.HeldAnswers.{release-held, same-held}
 use Rattle.sv_answers.proofs.ReleaseAnswers.{release-replies}
+use Rattle.sv_answers.proofs.QuietRefusals.{exactly-quiet, release-quiet}
 use Rattle.sv_answers.proofs.families.release.Goals as goal
 
 pub returns-in-Ok-clause-answered : goal.returns-in-Ok-clause-answered
@@ -12,6 +13,9 @@ pub returns-in-Err-clause-answered : goal.returns-in-Err-clause-answered
 returns-in-Err-clause-answered c told k all =
     let x = c.in-Err.ensures in
     release-replies told c.args.store.now c.release.new.self x.follows c.laws.ensures.rests.stands.sound k all c.args.name.now (Err c.in-Err.refusal) x.released x.refused x.kept
+
+pub returns-in-Err-clause-quiet : goal.returns-in-Err-clause-quiet
+returns-in-Err-clause-quiet c = exactly-quiet _ (release-quiet c.args.store.now.books.families c.args.name.now) c.in-Err.refusal c.in-Err.ensures.refused
 
 pub returns-in-Ok-clause-held : goal.returns-in-Ok-clause-held
 returns-in-Ok-clause-held c =

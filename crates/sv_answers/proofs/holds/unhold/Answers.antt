@@ -3,6 +3,7 @@ use Rattle.std.specs.Prelude.{Ok, Err}
 use Rattle.sv_model.specs.Books.{FileRegister}
 use Rattle.sv_answers.proofs.HeldAnswers.{numbers-held, same-held}
 use Rattle.sv_answers.proofs.HoldAnswers.{unhold-replies}
+use Rattle.sv_answers.proofs.QuietRefusals.{exactly-quiet, unhold-quiet}
 use Rattle.sv_answers.proofs.holds.unhold.Goals as goal
 
 pub returns-in-Ok-clause-answered : goal.returns-in-Ok-clause-answered
@@ -14,6 +15,9 @@ pub returns-in-Err-clause-answered : goal.returns-in-Err-clause-answered
 returns-in-Err-clause-answered c told k all =
     let x = c.in-Err.ensures in
     unhold-replies told c.args.store.now c.unhold.new.self x.follows k all x.rest (Err c.in-Err.refusal) x.ended x.refused x.kept
+
+pub returns-in-Err-clause-quiet : goal.returns-in-Err-clause-quiet
+returns-in-Err-clause-quiet c = exactly-quiet _ (unhold-quiet _) c.in-Err.refusal c.in-Err.ensures.refused
 
 pub returns-in-Ok-clause-held : goal.returns-in-Ok-clause-held
 returns-in-Ok-clause-held c =

@@ -7,6 +7,7 @@ use Rattle.sv_script.specs.declared.replies.Reply.TheVariants as reply
 use Rattle.sv_replies.specs.Answers.{Answers}
 use Rattle.sv_answers.specs.Answered.{alone}
 use Rattle.sv_answers.proofs.LiveAnswers.{live-refused, live-shown}
+use Rattle.sv_answers.proofs.QuietRefusals.{due-quiet, unhold-quiet}
 use Rattle.sv_answers.proofs.listings.live.Goals as goal
 
 pub returns-in-Ok-clause-answered : goal.returns-in-Ok-clause-answered
@@ -22,3 +23,6 @@ returns-in-Err-clause-answered c told k all =
     let x = c.in-Err.ensures in
     subst (λ (z : StoreSeen). Answers (alone told) c.args.store.now.books z.books k command.Live (reply.Refused c.in-Err.refusal)) (sym x.kept)
     (live-refused told c.args.store.now.books c.laws.ensures.rests.stands.sound k all c.in-Err.refusal x.refused)
+
+pub returns-in-Err-clause-quiet : goal.returns-in-Err-clause-quiet
+returns-in-Err-clause-quiet c = due-quiet _ (unhold-quiet _) c.in-Err.refusal c.in-Err.ensures.refused

@@ -1,6 +1,7 @@
 use Rattle.std.specs.Prelude.{Ok, Err}
 use Rattle.sv_answers.proofs.HeldAnswers.{same-held, set-held}
 use Rattle.sv_answers.proofs.SetAnswers.{set-replies}
+use Rattle.sv_answers.proofs.QuietRefusals.{due-quiet, set-quiet}
 use Rattle.sv_answers.proofs.options.set.Goals as goal
 
 pub returns-in-Ok-clause-answered : goal.returns-in-Ok-clause-answered
@@ -14,6 +15,9 @@ returns-in-Err-clause-answered c told k all =
     let x = c.in-Err.ensures in
     set-replies told c.args.store.now c.set.new.self x.follows c.laws.ensures.rests.stands.sound k all c.args.name.now c.args.option c.args.value
     (Err c.in-Err.refusal) x.set x.refused x.kept
+
+pub returns-in-Err-clause-quiet : goal.returns-in-Err-clause-quiet
+returns-in-Err-clause-quiet c = due-quiet _ (set-quiet c.args.store.now.books.families c.args.name.now c.args.option c.args.value c.args.store.now.books.supers) c.in-Err.refusal c.in-Err.ensures.refused
 
 pub returns-in-Ok-clause-held : goal.returns-in-Ok-clause-held
 returns-in-Ok-clause-held c =

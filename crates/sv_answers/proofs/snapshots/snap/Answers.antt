@@ -3,6 +3,7 @@ use Rattle.std.specs.Prelude.{Ok, Err}
 use Rattle.sv_model.specs.Books.{Books}
 use Rattle.sv_answers.proofs.HeldAnswers.{numbers-held, same-held}
 use Rattle.sv_answers.proofs.HoldAnswers.{snap-replies}
+use Rattle.sv_answers.proofs.QuietRefusals.{due-quiet, snap-quiet}
 use Rattle.sv_answers.proofs.snapshots.snap.Goals as goal
 
 pub returns-in-Ok-clause-answered : goal.returns-in-Ok-clause-answered
@@ -14,6 +15,9 @@ pub returns-in-Err-clause-answered : goal.returns-in-Err-clause-answered
 returns-in-Err-clause-answered c told k all =
     let x = c.in-Err.ensures in
     snap-replies told c.args.store.now c.snap.new.self x.follows k all (Err c.in-Err.refusal) x.made x.refused x.kept
+
+pub returns-in-Err-clause-quiet : goal.returns-in-Err-clause-quiet
+returns-in-Err-clause-quiet c = due-quiet _ (snap-quiet c.args.store.now.books.snapshots) c.in-Err.refusal c.in-Err.ensures.refused
 
 pub returns-in-Ok-clause-held : goal.returns-in-Ok-clause-held
 returns-in-Ok-clause-held c =

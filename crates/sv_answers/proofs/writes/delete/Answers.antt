@@ -1,4 +1,4 @@
-use Rattle.std.proofs.Common.{refl}
+use Rattle.std.proofs.Common.{length, refl}
 use Rattle.std.specs.Prelude.{Ok, Err}
 use Rattle.sv_model.specs.declared.writes.Op.TheVariants as op
 use Rattle.sv_script.specs.declared.commands.Command.TheVariants as command
@@ -6,6 +6,7 @@ use Rattle.sv_script.specs.declared.replies.Reply.TheVariants as reply
 use Rattle.sv_answers.proofs.HeldAnswers.{write-held}
 use Rattle.sv_answers.proofs.PutAnswers.{delete-is}
 use Rattle.sv_answers.proofs.WriteAnswers.{write-answers}
+use Rattle.sv_answers.proofs.QuietRefusals.{due-quiet, key-quiet, write-quiet}
 use Rattle.sv_answers.proofs.writes.delete.Goals as goal
 
 pub returns-in-Ok-delete-clause-answered : goal.returns-in-Ok-delete-clause-answered
@@ -23,6 +24,14 @@ returns-in-Err-delete-clause-answered c told k all =
     write-answers told c.args.store.now c.delete.new.self c.laws.ensures.rests.stands.sound c.delete.ensures.follows k all
     (command.Delete name key) name key op.Delete reply.Delete (delete-is told name key c.in-Ok.ensures.refused)
     (Err c.in-Err-delete.refusal) (record { key = c.in-Ok.key; op = op.Delete }) c.in-Ok.ensures.made refl c.in-Err-delete.ensures.writes
+
+pub returns-in-Err-delete-clause-quiet : goal.returns-in-Err-delete-clause-quiet
+returns-in-Err-delete-clause-quiet c =
+    write-quiet c.args.store.now c.delete.new.self c.args.name.now (record { key = c.in-Ok.key; op = op.Delete })
+    c.in-Err-delete.refusal c.in-Err-delete.ensures.writes
+
+pub returns-in-Err-clause-quiet : goal.returns-in-Err-clause-quiet
+returns-in-Err-clause-quiet c = due-quiet _ (key-quiet (length c.args.key.now)) c.in-Err.refusal c.in-Err.ensures.refused
 
 pub returns-in-Ok-delete-clause-held : goal.returns-in-Ok-delete-clause-held
 returns-in-Ok-delete-clause-held c =

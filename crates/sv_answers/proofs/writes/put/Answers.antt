@@ -6,6 +6,7 @@ use Rattle.sv_script.specs.declared.replies.Reply.TheVariants as reply
 use Rattle.sv_answers.proofs.HeldAnswers.{write-held}
 use Rattle.sv_answers.proofs.PutAnswers.{put-is, row-free}
 use Rattle.sv_answers.proofs.WriteAnswers.{write-answers}
+use Rattle.sv_answers.proofs.QuietRefusals.{due-quiet, row-quiet, write-quiet}
 use Rattle.sv_answers.proofs.writes.put.Goals as goal
 
 pub returns-in-Ok-put-clause-answered : goal.returns-in-Ok-put-clause-answered
@@ -29,6 +30,14 @@ returns-in-Err-put-clause-answered c told k all =
     write-answers told c.args.store.now c.put.new.self c.laws.ensures.rests.stands.sound c.put.ensures.follows k all
     (command.Put name key value) name key (op.Put value) reply.Put (put-is told name key value free.0 free.1)
     (Err c.in-Err-put.refusal) (record { key = c.in-Ok.key; op = op.Put c.in-Ok.value }) row.0 (ap op.Put row.1) c.in-Err-put.ensures.writes
+
+pub returns-in-Err-put-clause-quiet : goal.returns-in-Err-put-clause-quiet
+returns-in-Err-put-clause-quiet c =
+    write-quiet c.args.store.now c.put.new.self c.args.name.now (record { key = c.in-Ok.key; op = op.Put c.in-Ok.value })
+    c.in-Err-put.refusal c.in-Err-put.ensures.writes
+
+pub returns-in-Err-clause-quiet : goal.returns-in-Err-clause-quiet
+returns-in-Err-clause-quiet c = due-quiet _ (row-quiet (length c.args.key.now) (length c.args.value.now)) c.in-Err.refusal c.in-Err.ensures.refused
 
 pub returns-in-Ok-put-clause-held : goal.returns-in-Ok-put-clause-held
 returns-in-Ok-put-clause-held c =

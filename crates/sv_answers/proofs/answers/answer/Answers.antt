@@ -1,0 +1,31 @@
+use Rattle.std.proofs.Common.{is_some, subst, sym}
+use Rattle.sv_script.specs.declared.commands.Command.{Command}
+use Rattle.sv_replies.specs.Answers.{Answers}
+use Rattle.sv_answers.specs.Answered.{alone}
+use Rattle.sv_answers.proofs.QuietRefusals.{counts-quiet}
+use Rattle.sv_answers.proofs.answers.answer.Goals as goal
+
+pub returns-in-Scan-clause-answered : goal.returns-in-Scan-clause-answered
+returns-in-Scan-clause-answered g c held k all =
+    let told = is_some (g.D.Dir.files c.args.dir.now) in
+    subst (λ (z : Command). Answers (alone told) c.args.store.now.books c.scan.new.store.books k z c.scan.result) (sym c.in-Scan.is) (c.scan.ensures.answered told k all)
+
+pub returns-in_default : goal.returns-in_default
+returns-in_default g c =
+    let x = c.answer_in_memory in
+    record {
+      answered = λ held. x.ensures.answered (is_some (g.D.Dir.files c.args.dir.now));
+      faults = counts-quiet x.result (g.D.Dir.faults c.args.dir.now) x.ensures.quiet;
+      held = x.ensures.held (g.D.Dir.files c.args.dir.now);
+      follows = x.ensures.follows;
+    }
+
+pub returns-in-Flush-clause-answered : goal.returns-in-Flush-clause-answered
+returns-in-Flush-clause-answered g c held k all =
+    let told = is_some (g.D.Dir.files c.args.dir.now) in
+    subst (λ (z : Command). Answers (alone told) c.args.store.now.books c.flush.new.store.books k z c.flush.result) (sym c.in-Flush.is) (c.flush.ensures.answered told k all)
+
+pub returns-in-Purge-clause-answered : goal.returns-in-Purge-clause-answered
+returns-in-Purge-clause-answered g c held k all =
+    let told = is_some (g.D.Dir.files c.args.dir.now) in
+    subst (λ (z : Command). Answers (alone told) c.args.store.now.books c.purge.new.store.books k z c.purge.result) (sym c.in-Purge.is) (c.purge.ensures.answered told k all)

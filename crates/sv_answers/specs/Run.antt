@@ -1,0 +1,36 @@
+-- Which commands the one lane runs.
+use Rattle.std.specs.Prelude.{Bool, true, false, T}
+use Rattle.sv_script.specs.declared.commands.Command.{Command}
+use Rattle.sv_script.specs.declared.commands.Command.TheVariants.{Create, Delete, Drop, Flush, Get, Gets, Hold, Live, Open, Purge, Put, Release, Scan, Set, Snap, Unhold, Unsnap}
+
+-- the commands that ask nothing of the directory
+abbrev pub asks_none : Command → Bool
+asks_none (Put family key value) = true
+asks_none (Delete family key) = true
+asks_none (Create family) = true
+asks_none (Open family) = true
+asks_none (Release family) = true
+asks_none (Drop family) = true
+asks_none (Set family option value) = true
+asks_none Hold = true
+asks_none Unhold = true
+asks_none Live = true
+asks_none Snap = true
+asks_none (Unsnap snapshot) = true
+asks_none command = false
+
+abbrev pub AsksNone : Command → Type 0
+AsksNone command = T (asks_none command)
+
+-- The commands that are run. Pins and rests are not among them: the one lane keeps no SuperVersion from one command to
+-- the next.
+abbrev pub is_run : Command → Bool
+is_run (Get family key) = true
+is_run (Gets snapshot family key) = true
+is_run (Flush family) = true
+is_run Purge = true
+is_run Scan = true
+is_run command = asks_none command
+
+abbrev pub IsRun : Command → Type 0
+IsRun command = T (is_run command)
