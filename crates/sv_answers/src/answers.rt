@@ -1,9 +1,10 @@
 // The answer of the one lane to a command.
-ghost use Rattle.std.specs.Prelude.{Bool, is_some};
+ghost use Rattle.std.specs.Prelude.{◌≡◌, Bool, is_some};
 ghost use Rattle.sv_state.specs.Follows.{Follows};
 ghost use Rattle.sv_answers.specs.Answered.{CountsReply, IsAnswered, IsHeld, KeepsHeld, TellsNoFault};
 ghost use Rattle.sv_answers.specs.Run.{AsksNone, IsRun};
 
+use crate::compactions::compact;
 use crate::families::{create, drop_family, open, release};
 use crate::flushes::flush;
 use crate::holds::{hold, unhold};
@@ -57,6 +58,7 @@ pub fn answer<D: Dir>(alloc: Global, store: &mut Store, dir: &mut D, command: &C
     ensures answered { IsHeld store.old.books (D.files dir.old) → IsAnswered (is_some (D.files dir.old)) store.old.books store.new.books command.now result }
     ensures faults { CountsReply result (D.faults dir.old) (D.faults dir.new) }
     ensures held { IsHeld store.old.books (D.files dir.old) → IsHeld store.new.books (D.files dir.new) }
+    ensures told { is_some (D.files dir.new) ≡ is_some (D.files dir.old) }
     ensures follows { Follows store.old.books store.new.books }
 {
     store.laws();
@@ -68,6 +70,7 @@ pub fn answer<D: Dir>(alloc: Global, store: &mut Store, dir: &mut D, command: &C
             key,
         } => gets(alloc, store, dir, *snapshot, family, key.as_slice()),
         Command::Flush(family) => flush(store, dir, family),
+        Command::Compact(family) => compact(store, dir, family),
         Command::Purge => purge(store, dir),
         Command::Scan => scan(store, dir),
         _ => answer_in_memory(alloc, store, command),

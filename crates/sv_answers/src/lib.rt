@@ -2,8 +2,8 @@
 //! leaves, whatever the lane was told before.
 #![tactic(auto)]
 
-mod compactions;
 mod answers;
+mod compactions;
 mod families;
 mod flushes;
 mod holds;
@@ -15,8 +15,8 @@ mod scans;
 mod snapshots;
 mod writes;
 
-pub use compactions::compact;
 pub use answers::answer;
+pub use compactions::compact;
 pub use families::{create, drop_family, open, release};
 pub use flushes::flush;
 pub use holds::{hold, unhold};

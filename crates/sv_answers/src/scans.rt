@@ -1,5 +1,5 @@
 // Scans.
-ghost use Rattle.std.specs.Prelude.{Bool};
+ghost use Rattle.std.specs.Prelude.{◌≡◌, Bool, is_some};
 ghost use Rattle.sv_script.specs.declared.commands.Command.TheVariants as command;
 ghost use Rattle.sv_state.specs.Follows.{Follows};
 ghost use Rattle.sv_answers.specs.Answered.{CountsReply, IsAnswered, IsHeld, TellsScan};
@@ -16,6 +16,7 @@ pub fn scan<D: Dir>(store: &mut Store, dir: &mut D) -> Reply
     ensures scanned { TellsScan store.old.books.files store.new.books.files (record { files = D.files dir.old; later = D.files dir.new; before = D.faults dir.old; now = D.faults dir.new }) result }
     ensures faults { CountsReply result (D.faults dir.old) (D.faults dir.new) }
     ensures held { IsHeld store.old.books (D.files dir.old) → IsHeld store.new.books (D.files dir.new) }
+    ensures told { is_some (D.files dir.new) ≡ is_some (D.files dir.old) }
     ensures follows { Follows store.old.books store.new.books }
 {
     store.laws();

@@ -1,4 +1,4 @@
-use Rattle.std.proofs.Common.{is_some, subst, sym}
+use Rattle.std.proofs.Common.{is_some, refl, subst, sym}
 use Rattle.sv_script.specs.declared.commands.Command.{Command}
 use Rattle.sv_replies.specs.Answers.{Answers}
 use Rattle.sv_answers.specs.Answered.{alone}
@@ -17,6 +17,7 @@ returns-in_default g c =
       answered = λ held. x.ensures.answered (is_some (g.D.Dir.files c.args.dir.now));
       faults = counts-quiet x.result (g.D.Dir.faults c.args.dir.now) x.ensures.quiet;
       held = x.ensures.held (g.D.Dir.files c.args.dir.now);
+      told = refl;
       follows = x.ensures.follows;
     }
 
@@ -29,3 +30,8 @@ pub returns-in-Purge-clause-answered : goal.returns-in-Purge-clause-answered
 returns-in-Purge-clause-answered g c held k all =
     let told = is_some (g.D.Dir.files c.args.dir.now) in
     subst (λ (z : Command). Answers (alone told) c.args.store.now.books c.purge.new.store.books k z c.purge.result) (sym c.in-Purge.is) (c.purge.ensures.answered told k all)
+
+pub returns-in-Compact-clause-answered : goal.returns-in-Compact-clause-answered
+returns-in-Compact-clause-answered g c held k all =
+    let told = is_some (g.D.Dir.files c.args.dir.now) in
+    subst (λ (z : Command). Answers (alone told) c.args.store.now.books c.compact.new.store.books k z c.compact.result) (sym c.in-Compact.is) (c.compact.ensures.answered held k all)

@@ -1,3 +1,4 @@
+use Rattle.sv_answers.proofs.ToldFiles.{compact-stop-told, compact-told}
 use Rattle.std.specs.Prelude.{Ok, Err}
 use Rattle.sv_answers.proofs.CompactAnswers.{compact-replies}
 use Rattle.sv_answers.proofs.compactions.compact.Goals as goal
@@ -15,3 +16,11 @@ returns-in-Err-clause-answered g c held k all =
     let rests = c.laws.ensures.rests in
     compact-replies (g.D.Dir.files c.args.dir.now) (g.D.Dir.files c.compact.new.dir) c.args.store.now c.compact.new.self x.follows rests.stands.sound rests.still held k all c.args.name.now
     (Err c.in-Err.refusal) x.compacted x.refused
+
+pub returns-in-Ok-clause-told : goal.returns-in-Ok-clause-told
+returns-in-Ok-clause-told g c =
+    compact-told (g.D.Dir.files c.args.dir.now) (g.D.Dir.files c.compact.new.dir) c.args.store.now.books c.compact.new.self.books c.args.name.now c.in-Ok.file c.in-Ok.ensures.compacted
+
+pub returns-in-Err-clause-told : goal.returns-in-Err-clause-told
+returns-in-Err-clause-told g c =
+    compact-stop-told (g.D.Dir.files c.args.dir.now) (g.D.Dir.files c.compact.new.dir) c.args.store.now c.compact.new.self c.args.name.now c.in-Err.refusal c.in-Err.ensures.refused

@@ -1,3 +1,4 @@
+use Rattle.sv_answers.proofs.ToldFiles.{flush-stop-told, flush-told}
 use Rattle.std.specs.Prelude.{Ok, Err}
 use Rattle.sv_answers.proofs.FlushAnswers.{flush-replies}
 use Rattle.sv_answers.proofs.flushes.flush.Goals as goal
@@ -13,3 +14,11 @@ returns-in-Err-clause-answered g c told k all =
     let x = c.in-Err.ensures in
     flush-replies told c.args.store.now c.flush.new.self c.laws.ensures.rests x.follows k all c.args.name.now
     (g.D.Dir.files c.args.dir.now) (g.D.Dir.files c.flush.new.dir) (Err c.in-Err.refusal) x.flushed x.refused
+
+pub returns-in-Ok-clause-told : goal.returns-in-Ok-clause-told
+returns-in-Ok-clause-told g c =
+    flush-told (g.D.Dir.files c.args.dir.now) (g.D.Dir.files c.flush.new.dir) c.args.store.now.books c.flush.new.self.books c.args.name.now c.in-Ok.file c.in-Ok.ensures.flushed
+
+pub returns-in-Err-clause-told : goal.returns-in-Err-clause-told
+returns-in-Err-clause-told g c =
+    flush-stop-told (g.D.Dir.files c.args.dir.now) (g.D.Dir.files c.flush.new.dir) c.args.store.now c.flush.new.self c.args.name.now c.in-Err.refusal c.in-Err.ensures.refused

@@ -1,3 +1,4 @@
+use Rattle.sv_answers.proofs.ToldFiles.{purge-stop-told, purge-told}
 use Rattle.std.proofs.Common.{List, ℕ, sym, subst}
 use Rattle.std.specs.Prelude.{Ok, Err}
 use Rattle.sv_store.specs.Purging.{Purges}
@@ -38,3 +39,13 @@ pub returns-in-Ok-clause-purged : goal.returns-in-Ok-clause-purged
 returns-in-Ok-clause-purged g c =
     let d = dir_seen (g.D.Dir.files c.args.dir.now) (g.D.Dir.files c.purge.new.dir) (g.D.Dir.faults c.args.dir.now) (g.D.Dir.faults c.purge.new.dir) in
     subst (λ (l : List ℕ). Purges c.args.store.now.books.files c.purge.new.self.books.files d l) (sym c.from_vec.ensures) c.in-Ok.ensures.purged
+
+pub returns-in-Ok-clause-told : goal.returns-in-Ok-clause-told
+returns-in-Ok-clause-told g c =
+    let d = dir_seen (g.D.Dir.files c.args.dir.now) (g.D.Dir.files c.purge.new.dir) (g.D.Dir.faults c.args.dir.now) (g.D.Dir.faults c.purge.new.dir) in
+    purge-told c.args.store.now.books.files c.purge.new.self.books.files d c.in-Ok.numbers.items c.in-Ok.ensures.purged
+
+pub returns-in-Err-clause-told : goal.returns-in-Err-clause-told
+returns-in-Err-clause-told g c =
+    let d = dir_seen (g.D.Dir.files c.args.dir.now) (g.D.Dir.files c.purge.new.dir) (g.D.Dir.faults c.args.dir.now) (g.D.Dir.faults c.purge.new.dir) in
+    purge-stop-told c.args.store.now.books.files c.purge.new.self.books.files d c.in-Err.refusal c.in-Err.ensures.stops

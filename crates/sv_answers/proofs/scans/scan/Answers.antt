@@ -1,3 +1,4 @@
+use Rattle.sv_answers.proofs.ToldFiles.{scan-stop-told, scan-told}
 use Rattle.std.proofs.Common.{List, ℕ, subst, sym}
 use Rattle.sv_script.specs.declared.commands.Command.TheVariants as command
 use Rattle.sv_script.specs.declared.replies.Reply.TheVariants as reply
@@ -38,3 +39,13 @@ pub returns-in-Ok-clause-scanned : goal.returns-in-Ok-clause-scanned
 returns-in-Ok-clause-scanned g c =
     let d : DirSeen = record { files = g.D.Dir.files c.args.dir.now; later = g.D.Dir.files c.scan.new.dir; before = g.D.Dir.faults c.args.dir.now; now = g.D.Dir.faults c.scan.new.dir } in
     subst (λ (numbers : List ℕ). Scans c.args.store.now.books.files c.scan.new.self.books.files d numbers) (sym c.from_vec.ensures) c.in-Ok.ensures.scanned
+
+pub returns-in-Ok-clause-told : goal.returns-in-Ok-clause-told
+returns-in-Ok-clause-told g c =
+    let d : DirSeen = record { files = g.D.Dir.files c.args.dir.now; later = g.D.Dir.files c.scan.new.dir; before = g.D.Dir.faults c.args.dir.now; now = g.D.Dir.faults c.scan.new.dir } in
+    scan-told c.args.store.now.books.files c.scan.new.self.books.files d c.in-Ok.numbers.items c.in-Ok.ensures.scanned
+
+pub returns-in-Err-clause-told : goal.returns-in-Err-clause-told
+returns-in-Err-clause-told g c =
+    let d : DirSeen = record { files = g.D.Dir.files c.args.dir.now; later = g.D.Dir.files c.scan.new.dir; before = g.D.Dir.faults c.args.dir.now; now = g.D.Dir.faults c.scan.new.dir } in
+    scan-stop-told c.args.store.now.books.files c.scan.new.self.books.files d c.in-Err.refusal c.in-Err.ensures.stops

@@ -1,0 +1,2 @@
+mod PlayedLines
+pub mod playing
