@@ -1,3 +1,4 @@
+mod AbsentFiles
 mod ActiveCells
 mod CallLaws
 mod CellLaws
@@ -11,6 +12,7 @@ mod FrameLaws
 mod HeldFlushes
 pub mod HeldLaws
 mod HeldPurges
+mod LeftFlushes
 mod LiveLaws
 mod OpeningLaws
 mod OutputLaws
