@@ -93,6 +93,14 @@ ended-or gone x = by (is_in x.number gone) refl
     by true e = inl (ap (λ (b : Bool). cond b Gone x.status) e)
     by false e = inr (ap (λ (b : Bool). with_status x (cond b Gone x.status)) e)
 
+-- a number is one of these or as it was
+pub ended-in : (gone : List ℕ) (x : RegisteredFile) → In x.number gone ⊎ (ended gone x ≡ x)
+ended-in gone x = by (is_in x.number gone) refl
+  where
+    by : (b : Bool) → is_in x.number gone ≡ b → In x.number gone ⊎ (ended gone x ≡ x)
+    by true e = inl (is-in x.number gone e)
+    by false e = inr (ap (λ (b : Bool). with_status x (cond b Gone x.status)) e)
+
 -- ---- entries of a register that was gone through
 pub mapped-entry : (F : RegisteredFile → RegisteredFile) (l : List RegisteredFile) (i : ℕ) (y : RegisteredFile) → entry (map F l) i ≡ Some y
     → (x : RegisteredFile) × (entry l i ≡ Some x) × (y ≡ F x)

@@ -96,7 +96,7 @@ in-more a b h x has = subst (λ (l : List FileMeta). In x l) (sym h.1) (in-left 
 same-number : (m n : ℕ) → (m == n) ≡ true → m ≡ n
 same-number m n e = grind (arith, nat_tests, e)
 
-other-number : (m n : ℕ) → m ≢ n → (m == n) ≡ false
+pub other-number : (m n : ℕ) → m ≢ n → (m == n) ≡ false
 other-number m n apart = grind (arith, nat_tests, apart)
 
 itself : (n : ℕ) → (n == n) ≡ true

@@ -1,3 +1,4 @@
+mod AbsentFiles
 mod ActiveCells
 mod CallLaws
 mod CellLaws
@@ -24,6 +25,7 @@ mod HeldFlushes
 pub mod HeldLaws
 mod HeldPurges
 mod HeldScans
+mod LeftFlushes
 mod LiveLaws
 mod OpeningLaws
 mod OutputLaws

@@ -3,7 +3,7 @@ ghost use Rattle.std.specs.Prelude.{IfErr, IfOk};
 ghost use Rattle.sv_file_checks.specs.Faults.{CountsFault};
 ghost use Rattle.sv_state.specs.Follows.{Follows};
 ghost use Rattle.sv_store.specs.Flushing.{FlushRefused, Flushes};
-ghost use Rattle.sv_store.specs.HeldFiles.{IsHeld};
+ghost use Rattle.sv_store.specs.HeldFiles.{IsHeld, LeavesOthers};
 
 use crate::appends::LANE;
 use crate::flush_files::flush_family;
@@ -24,6 +24,7 @@ impl Store {
         ensures refused { IfErr result (FlushRefused self.old self.new (D.files dir.old) (D.files dir.new) name.now) }
         ensures faults { CountsFault result (D.faults dir.old) (D.faults dir.new) }
         ensures held { IsHeld self.old.books (D.files dir.old) → IsHeld self.new.books (D.files dir.new) }
+        ensures others { LeavesOthers self.old.books self.new.books (D.files dir.old) (D.files dir.new) }
         ensures follows { Follows self.old.books self.new.books }
     {
         let plan = match self.state.flush_plan(LANE, name) {

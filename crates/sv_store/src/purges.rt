@@ -7,7 +7,7 @@ ghost use Rattle.sv_model.specs.Refusals.{RefusesExactly};
 ghost use Rattle.sv_dir.specs.Files.{MayRemove, RemovesFile};
 ghost use Rattle.sv_files.specs.Calls.{disabled};
 ghost use Rattle.sv_state.specs.Follows.{Follows, OnlyFiles};
-ghost use Rattle.sv_store.specs.HeldFiles.{IsHeld};
+ghost use Rattle.sv_store.specs.HeldFiles.{IsHeld, LeavesOthers};
 ghost use Rattle.sv_store.specs.Purging.{PurgeStops, Purges};
 ghost use Rattle.sv_store.specs.Removals.{Removes, RemovesSome};
 
@@ -78,6 +78,7 @@ impl Store {
         ensures stops { IfErr result (PurgeStops self.old.books.files self.new.books.files (record { files = D.files dir.old; later = D.files dir.new; before = D.faults dir.old; now = D.faults dir.new })) }
         ensures none { ((n : ℕ) → IsReady self.old.books.files n → ⊥) → RefusesExactly (disabled self.old.books.files) result }
         ensures held { IsHeld self.old.books (D.files dir.old) → IsHeld self.new.books (D.files dir.new) }
+        ensures others { LeavesOthers self.old.books self.new.books (D.files dir.old) (D.files dir.new) }
         ensures rest { self.new ≡ record self.old { books = record self.old.books { files = self.new.books.files } } }
         ensures follows { Follows self.old.books self.new.books }
     {

@@ -3,12 +3,14 @@ use Rattle.std.proofs.Common.{◌⊎◌, inl, refl, subst}
 use Rattle.std.specs.Prelude.{IfErr, IfOk}
 use Rattle.sv_state.specs.Planning.{IsFlushPlan, flush_refusal}
 use Rattle.sv_store.specs.Flushing.{FlushRefused, Flushes, FlushesFamily, StopsAfter, StopsBefore}
-use Rattle.sv_store.specs.HeldFiles.{IsHeld}
+use Rattle.sv_store.specs.HeldFiles.{IsHeld, LeavesOthers}
 use Rattle.sv_store.specs.Seen.{StoreSeen}
+use Rattle.sv_store.proofs.AbsentFiles.{same-leaves}
 use Rattle.sv_store.proofs.FlushCalls.{flushed-as, stopped-as}
 use Rattle.sv_store.proofs.FlushLaws.{planned-empties}
 use Rattle.sv_store.proofs.FrameLaws.{own-currents}
 use Rattle.sv_store.proofs.HeldFlushes.{flush-held}
+use Rattle.sv_store.proofs.LeftFlushes.{flush-leaves}
 use Rattle.sv_store.proofs.PlanFaults.{counts-none, flush-told}
 use Rattle.sv_store.proofs.PlanLaws.{plan-made, plan-refused}
 use Rattle.sv_store.proofs.WriteLaws.{seen_as}
@@ -37,6 +39,12 @@ pub returns-in-Err-clause-held : goal.returns-in-Err-clause-held
 returns-in-Err-clause-held g c =
     let F = g.D.Dir.files c.args.dir.now in
     subst (λ (z : StoreSeen). IsHeld z.books F → IsHeld z.books F) c.self.view_is (λ held. held)
+
+pub returns-in-Err-clause-others : goal.returns-in-Err-clause-others
+returns-in-Err-clause-others g c =
+    let F = g.D.Dir.files c.args.dir.now in
+    subst (λ (z : StoreSeen). LeavesOthers z.books z.books F F) c.self.view_is
+    (same-leaves c.self.inside.state.books c.self.inside.state.books (λ n has. has) F)
 
 pub flush_family-requires : goal.flush_family-requires
 flush_family-requires g c =
@@ -81,4 +89,14 @@ returns-clause-held g c =
     let G = g.D.Dir.files c.flush_family.new.dir in
     subst (λ (z : StoreSeen). IsHeld z.books F → IsHeld t.books G) c.self.view_is
     (flush-held s t c.self.inside.cells c.flush_family.new.cells c.self.invariant.stands.sound F G c.in-Ok.plan.family
+    c.flush_family.result c.flush_family.ensures.flushed c.flush_family.ensures.stopped)
+
+pub returns-clause-others : goal.returns-clause-others
+returns-clause-others g c =
+    let s = c.self.inside.state in
+    let t = c.flush_family.new.state in
+    let F = g.D.Dir.files c.args.dir.now in
+    let G = g.D.Dir.files c.flush_family.new.dir in
+    subst (λ (z : StoreSeen). LeavesOthers z.books t.books F G) c.self.view_is
+    (flush-leaves s t c.self.inside.cells c.flush_family.new.cells c.self.invariant.stands.sound F G c.in-Ok.plan.family
     c.flush_family.result c.flush_family.ensures.flushed c.flush_family.ensures.stopped)

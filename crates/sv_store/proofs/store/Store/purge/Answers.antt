@@ -5,11 +5,12 @@ use Rattle.sv_model.specs.Numbers.{AreInOrder, IsReady}
 use Rattle.sv_model.specs.Refusals.{IsDue, RefusesExactly}
 use Rattle.sv_files.specs.Calls.{disabled}
 use Rattle.sv_state.specs.Seen.{StateSeen}
-use Rattle.sv_store.specs.HeldFiles.{IsHeld}
+use Rattle.sv_store.specs.HeldFiles.{IsHeld, LeavesOthers}
 use Rattle.sv_store.specs.Removals.{RemovesSome}
 use Rattle.sv_store.specs.Seen.{StoreSeen}
+use Rattle.sv_store.proofs.AbsentFiles.{same-leaves}
 use Rattle.sv_store.proofs.FrameLaws.{files-rests}
-use Rattle.sv_store.proofs.HeldPurges.{tried-held}
+use Rattle.sv_store.proofs.HeldPurges.{tried-held, tried-leaves}
 use Rattle.sv_store.proofs.PurgeLaws.{refused-purge, removed-still, some-tried}
 use Rattle.sv_store.proofs.RemovalSteps.{dir_seen}
 use Rattle.sv_store.proofs.store.Store.purge.Goals as goal
@@ -27,6 +28,12 @@ pub returns-in-Err-clause-held : goal.returns-in-Err-clause-held
 returns-in-Err-clause-held g c =
     let F = g.D.Dir.files c.args.dir.now in
     subst (λ (z : StoreSeen). IsHeld z.books F → IsHeld z.books F) c.self.view_is (λ held. held)
+
+pub returns-in-Err-clause-others : goal.returns-in-Err-clause-others
+returns-in-Err-clause-others g c =
+    let F = g.D.Dir.files c.args.dir.now in
+    subst (λ (z : StoreSeen). LeavesOthers z.books z.books F F) c.self.view_is
+    (same-leaves c.self.inside.state.books c.self.inside.state.books (λ n has. has) F)
 
 pub returns-in-Err-clause-none : goal.returns-in-Err-clause-none
 returns-in-Err-clause-none g c = λ no.
@@ -67,5 +74,17 @@ returns-clause-held g c =
     let G = g.D.Dir.files k.new.dir in
     subst (λ (z : StoreSeen). IsHeld z.books F → IsHeld b G) c.self.view_is
     (tried-held a b c.self.invariant.stands.sound.lawful k.ensures.follows F G (g.D.Dir.faults c.args.dir.now) (g.D.Dir.faults k.new.dir)
+    k.result c.as_slice.result.now
+    (subst (λ (l : List ℕ). AreInOrder (IsReady a.files) l) (sym c.as_slice.ensures.value) c.in-Ok.ensures.ready) k.ensures.all k.ensures.some)
+
+pub returns-clause-others : goal.returns-clause-others
+returns-clause-others g c =
+    let k = c.remove_each in
+    let a = c.self.inside.state.books in
+    let b = k.new.state.books in
+    let F = g.D.Dir.files c.args.dir.now in
+    let G = g.D.Dir.files k.new.dir in
+    subst (λ (z : StoreSeen). LeavesOthers z.books b F G) c.self.view_is
+    (tried-leaves a b c.self.invariant.stands.sound.lawful k.ensures.follows F G (g.D.Dir.faults c.args.dir.now) (g.D.Dir.faults k.new.dir)
     k.result c.as_slice.result.now
     (subst (λ (l : List ℕ). AreInOrder (IsReady a.files) l) (sym c.as_slice.ensures.value) c.in-Ok.ensures.ready) k.ensures.all k.ensures.some)
