@@ -1,3 +1,4 @@
+mod CompactAnswers
 mod FamilyAnswers
 mod FlushAnswers
 mod GetsAnswers

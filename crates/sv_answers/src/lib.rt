@@ -3,6 +3,7 @@
 #![tactic(auto)]
 
 mod answers;
+mod compactions;
 mod families;
 mod flushes;
 mod holds;
@@ -15,6 +16,7 @@ mod snapshots;
 mod writes;
 
 pub use answers::answer;
+pub use compactions::compact;
 pub use families::{create, drop_family, open, release};
 pub use flushes::flush;
 pub use holds::{hold, unhold};

@@ -24,7 +24,7 @@ use Rattle.sv_state.proofs.Finishes.{done-it}
 -- ---- the family that has captured the number
 
 -- there is one such family
-one-captor : (a : Books) → Sound a → (f g n : ℕ) → slice_get a.files.captured f ≡ Some (Some n) → slice_get a.files.captured g ≡ Some (Some n) → f ≡ g
+pub one-captor : (a : Books) → Sound a → (f g n : ℕ) → slice_get a.files.captured f ≡ Some (Some n) → slice_get a.files.captured g ≡ Some (Some n) → f ≡ g
 one-captor a k f g n p q =
     let u = k.lawful.numbers.held f n p in
     let w = k.lawful.numbers.held g n q in

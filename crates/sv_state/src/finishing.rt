@@ -108,7 +108,7 @@ impl State {
 }
 
 // The family whose flush or compaction under way has captured the number.
-fn captor(files: &FileBook, number: FileNumber) -> FamilyId
+pub(crate) fn captor(files: &FileBook, number: FileNumber) -> FamilyId
     requires { IsCaptured files.now.captured number }
     ensures { slice_get files.now.captured result ≡ Some (Some number) }
 {

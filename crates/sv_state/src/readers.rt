@@ -7,9 +7,11 @@ ghost use Rattle.sv_model.specs.Refusals.{RefusesExactly};
 ghost use Rattle.sv_model.specs.Steady.{Sound};
 ghost use Rattle.sv_family.specs.Refused.{find_refusal};
 ghost use Rattle.sv_model.specs.Books.{files_of};
+ghost use Rattle.sv_state.specs.Capturing.{IsUnderWay};
 ghost use Rattle.sv_state.specs.Currents.{HasCurrentAt, StandsAt, kept_of};
 ghost use Rattle.sv_state.specs.Refs.{IsRefOf};
 
+use crate::finishing::captor;
 use crate::state::State;
 use sv_model::{FamilyId, FileMeta, FileNumber, Name, Options, SvRef, Top, VersionId};
 use sv_objects::Body;
@@ -57,6 +59,14 @@ impl State {
     {
         let last = last_of(self.tops.as_slice(), family);
         self.objects.versions.files(last)
+    }
+
+    /// The family whose flush or compaction under way has captured the number. Takes no memory.
+    pub fn captor(&self, number: FileNumber) -> FamilyId
+        requires { IsUnderWay self.now.books number }
+        ensures { (family : ℕ) → slice_get self.now.books.files.captured family ≡ Some (Some number) → result ≡ family }
+    {
+        captor(&self.objects.files, number)
     }
 
     /// The next file number. Takes no memory.

@@ -31,7 +31,7 @@ emptied-held a b f sound e =
 
 -- ---- the list is written
 
-refused-any : (number : ℕ) (told now : Option Files) (e : Refusal) → OutputRefused number told now e → LeavesAny number told now ⊎ (now ≡ told)
+pub refused-any : (number : ℕ) (told now : Option Files) (e : Refusal) → OutputRefused number told now e → LeavesAny number told now ⊎ (now ≡ told)
 refused-any number told now (refusal.DirFault n) h = inl h.1
 refused-any number told now refusal.OutOfMemory h = inr h
 refused-any number told now e h = absurd h

@@ -1,6 +1,8 @@
 mod ActiveCells
 mod CallLaws
 mod CellLaws
+mod CompactionCalls
+mod CompactionFiles
 pub mod EmptiedFamilies
 pub mod EndedNumbers
 mod FlushCalls
@@ -9,6 +11,7 @@ mod FlushLaws
 mod FlushedLaws
 mod FrameLaws
 mod HandedNumbers
+mod HeldCompactions
 mod HeldFlushes
 pub mod HeldLaws
 mod HeldPurges

@@ -15,7 +15,7 @@ use Rattle.sv_family.specs.Refused.{change_refusal, dropped_refusal, find_refusa
 use Rattle.sv_file_checks.specs.Faults.{CountsFault, faults_told}
 use Rattle.sv_files.specs.Calls.{capture_refusal}
 use Rattle.sv_registry.specs.Calls.{full_refusal}
-use Rattle.sv_state.specs.Planning.{MeantAt, active_rows, all_made_refusal, busy_refusal, flush_refusal, nothing_refusal, only_if}
+use Rattle.sv_state.specs.Planning.{MeantAt, active_rows, all_made_refusal, busy_refusal, compact_refusal, compacts_nothing, flush_refusal, nothing_refusal, only_if}
 use Rattle.sv_store.specs.Outputs.{IsPlanRefused}
 
 abbrev IsQuiet : Option Refusal → Type 0
@@ -77,8 +77,23 @@ due-told : (d : Option Refusal) (e : Refusal) → IsQuiet d → IsDue d e → fa
 due-told d refusal.OutOfMemory h w = refl
 due-told d e h w = h e w
 
+compact-quiet : (b : Books) (name : List ℕ) (m : MeantAt b 0 name) → IsQuiet (compact_refusal b m)
+compact-quiet b name m =
+    let none_left = compacts_nothing b.journal b.snapshots m.family m.version.files in
+    let nothing = only_if none_left (Some refusal.NothingToCompact) in
+    first-quiet (busy_refusal (slice_get b.files.captured m.family)) (nothing ∷ capture_refusal b.files ∷ []) (busy-quiet (slice_get b.files.captured m.family))
+    (first-quiet nothing (capture_refusal b.files ∷ []) (when-quiet none_left refusal.NothingToCompact refl)
+    (first-quiet (capture_refusal b.files) [] (capture-quiet (nat_le MAX_CAPTURED (captures b.files.numbers) || (b.files.next == 18446744073709551615))) none-quiet))
+
+plan-told : (b : Books) (name : List ℕ) (fault : MeantAt b 0 name → Option Refusal) → ((m : MeantAt b 0 name) → IsQuiet (fault m)) → (e : Refusal)
+    → IsPlanRefused b name fault e → faults_told e ≡ 0
+plan-told b name fault quiet e h = ⊎_elim (λ q. change-quiet b.families 0 name e q) (λ w. due-told (fault w.0) e (quiet w.0) w.1) h
+
 pub flush-told : (b : Books) (name : List ℕ) (e : Refusal) → IsPlanRefused b name (flush_refusal b) e → faults_told e ≡ 0
-flush-told b name e h = ⊎_elim (λ q. change-quiet b.families 0 name e q) (λ w. due-told (flush_refusal b w.0) e (flush-quiet b name w.0) w.1) h
+flush-told b name e h = plan-told b name (flush_refusal b) (flush-quiet b name) e h
+
+pub compact-told : (b : Books) (name : List ℕ) (e : Refusal) → IsPlanRefused b name (compact_refusal b) e → faults_told e ≡ 0
+compact-told b name e h = plan-told b name (compact_refusal b) (compact-quiet b name) e h
 
 -- a refusal that tells no fault, where the directory was not asked
 pub counts-none : {T : Type 0} (e : Refusal) (n : ℕ) → faults_told e ≡ 0 → CountsFault {T = T} (Err e) n n

@@ -1,4 +1,5 @@
 pub mod Cells
+pub mod Compacting
 pub mod Emptying
 pub mod Flushing
 pub mod Going

@@ -4,6 +4,9 @@
 mod appends;
 mod cells;
 mod cleanups;
+mod compaction_files;
+mod compaction_installs;
+mod compactions;
 mod emptying;
 mod families;
 mod filling;
