@@ -1,14 +1,14 @@
 // A store with the directory in memory beside it, and the texts of its answers.
+ghost use Rattle.std.specs.Prelude.{◌≤◌, IfOk};
+ghost use Rattle.sv_answers.specs.Run.{IsRun};
+
 use std::alloc::Global;
 use std::process::Abort;
 use std::test::*;
-use sv_answers::{
-    create, delete, drop_family, get, gets, hold, live, open, put, release, set, snap, unhold,
-    unsnap,
-};
+use sv_answers::answer;
 use sv_dir::MemDir;
 use sv_model::{Items, Name, OptionName};
-use sv_script::{Reply, reply_text};
+use sv_script::{Command, reply_text};
 use sv_store::Store;
 
 /// A command of the tests.
@@ -26,6 +26,7 @@ pub enum Deed {
     Lists(&'static str, u64),
     Flush(&'static str),
     Purge,
+    Scan,
     Hold,
     Unhold,
     Live,
@@ -33,67 +34,85 @@ pub enum Deed {
     Unsnap(u64),
 }
 
-/// A store that opens, over an empty directory.
-pub fn opened(alloc: Global) -> Result<(Store, MemDir), Fail> {
-    let store = Store::new(alloc, 1)?;
-    let dir = MemDir::new(alloc, Vec::new(alloc), Vec::new(alloc))?;
-    Ok((store, dir))
-}
-
 fn name_of(word: &str) -> Result<Name, Fail> {
     Ok(Name::new(word.as_bytes()).ok_or("a name")?)
 }
 
-fn reply_to(alloc: Global, store: &mut Store, dir: &mut MemDir, deed: Deed) -> Result<Reply, Fail> {
+fn bytes_of(alloc: Global, word: &str) -> Result<Items<u8>, Fail> {
+    Ok(Items::from_vec(word.as_bytes().to_vec(alloc)?))
+}
+
+fn command_of(alloc: Global, deed: Deed) -> Result<Command, Fail>
+    ensures { IfOk result IsRun }
+{
     Ok(match deed {
-        Deed::Put(name, key, value) => {
-            put(
-                alloc,
-                store,
-                &name_of(name)?,
-                key.as_bytes(),
-                value.as_bytes(),
-            )
-        }
-        Deed::Delete(name, key) => delete(alloc, store, &name_of(name)?, key.as_bytes()),
-        Deed::Get(name, key) => get(alloc, store, dir, &name_of(name)?, key.as_bytes()),
-        Deed::Gets(id, name, key) => {
-            gets(alloc, store, dir, id, &name_of(name)?, key.as_bytes())
-        }
-        Deed::Create(name) => create(store, &name_of(name)?),
-        Deed::Open(name) => open(store, &name_of(name)?),
-        Deed::Release(name) => release(store, &name_of(name)?),
-        Deed::Drop(name) => drop_family(store, &name_of(name)?),
-        Deed::Rows(name, value) => set(store, &name_of(name)?, OptionName::MemtableRows, value),
-        Deed::Lists(name, value) => set(store, &name_of(name)?, OptionName::MaxImmutable, value),
-        Deed::Flush(name) => match store.flush(dir, &name_of(name)?) {
-            Ok(file) => Reply::Flush {
-                number: file.number,
-                from: file.from,
-                to: file.to,
-            },
-            Err(refusal) => Reply::Refused(refusal),
+        Deed::Put(name, key, value) => Command::Put {
+            family: name_of(name)?,
+            key: bytes_of(alloc, key)?,
+            value: bytes_of(alloc, value)?,
         },
-        Deed::Purge => match store.purge(dir) {
-            Ok(files) => Reply::Purge(Items::from_vec(files)),
-            Err(refusal) => Reply::Refused(refusal),
+        Deed::Delete(name, key) => Command::Delete {
+            family: name_of(name)?,
+            key: bytes_of(alloc, key)?,
         },
-        Deed::Hold => hold(store),
-        Deed::Unhold => unhold(store),
-        Deed::Live => live(store),
-        Deed::Snap => snap(store),
-        Deed::Unsnap(id) => unsnap(store, id),
+        Deed::Get(name, key) => Command::Get {
+            family: name_of(name)?,
+            key: bytes_of(alloc, key)?,
+        },
+        Deed::Gets(snapshot, name, key) => Command::Gets {
+            snapshot,
+            family: name_of(name)?,
+            key: bytes_of(alloc, key)?,
+        },
+        Deed::Create(name) => Command::Create(name_of(name)?),
+        Deed::Open(name) => Command::Open(name_of(name)?),
+        Deed::Release(name) => Command::Release(name_of(name)?),
+        Deed::Drop(name) => Command::Drop(name_of(name)?),
+        Deed::Rows(name, value) => Command::Set {
+            family: name_of(name)?,
+            option: OptionName::MemtableRows,
+            value,
+        },
+        Deed::Lists(name, value) => Command::Set {
+            family: name_of(name)?,
+            option: OptionName::MaxImmutable,
+            value,
+        },
+        Deed::Flush(name) => Command::Flush(name_of(name)?),
+        Deed::Purge => Command::Purge,
+        Deed::Scan => Command::Scan,
+        Deed::Hold => Command::Hold,
+        Deed::Unhold => Command::Unhold,
+        Deed::Live => Command::Live,
+        Deed::Snap => Command::Snap,
+        Deed::Unsnap(snapshot) => Command::Unsnap(snapshot),
     })
 }
 
-/// Does these deeds one after the other, and compares the answer to each.
-pub fn expect(rt: &impl Abort, alloc: Global, deeds: &[(Deed, &str)]) -> Result<(), Fail> {
-    let (mut store, mut dir) = opened(alloc)?;
-    for (deed, answer) in deeds {
-        let reply = reply_to(alloc, &mut store, &mut dir, *deed)?;
-        let text = reply_text(alloc, 1, &reply)?;
-        let wanted = format!(in alloc; "1 {answer}\n")?;
-        assert_eq!(rt; text.as_slice(), wanted.as_bytes());
+/// Does these deeds one after the other over this directory, and compares the answer to each. `next` is the number of
+/// the first file.
+pub fn expect_over(
+    rt: &impl Abort,
+    alloc: Global,
+    dir: &mut MemDir,
+    next: u64,
+    deeds: &[(Deed, &str)],
+) -> Result<(), Fail>
+    requires { 1 ≤ next }
+{
+    let mut store = Store::new(alloc, next)?;
+    for (deed, text) in deeds {
+        let command = command_of(alloc, *deed)?;
+        let reply = answer(alloc, &mut store, dir, &command);
+        let told = reply_text(alloc, 1, &reply)?;
+        let wanted = format!(in alloc; "1 {text}\n")?;
+        assert_eq!(rt; told.as_slice(), wanted.as_bytes());
     }
     Ok(())
+}
+
+/// The same of a store that opens over an empty directory.
+pub fn expect(rt: &impl Abort, alloc: Global, deeds: &[(Deed, &str)]) -> Result<(), Fail> {
+    let mut dir = MemDir::new(alloc, Vec::new(alloc), Vec::new(alloc))?;
+    expect_over(rt, alloc, &mut dir, 1, deeds)
 }

@@ -1,4 +1,4 @@
-// Flushes and purges, which are not among the answers yet: asked of the store itself.
+// Flushes and purges.
 use crate::bench::{Deed, expect};
 use std::rt::HostRuntime;
 use std::test::*;

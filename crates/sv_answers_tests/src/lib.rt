@@ -11,3 +11,5 @@ mod flushes;
 mod holds;
 #[cfg(test)]
 mod rows;
+#[cfg(test)]
+mod scans;

@@ -21,6 +21,7 @@ mod FrameLaws
 mod LeftNumbers
 mod HeldCompactions
 mod HandedNumbers
+mod HeldCompactions
 mod HeldFlushes
 pub mod HeldLaws
 mod HeldPurges
