@@ -5,28 +5,24 @@ mod CellLaws
 mod ClosedBooks
 mod ClosedStore
 mod ClosingSteps
+mod CompactionCalls
+mod CompactionFiles
 mod CurrentCases
 mod EndedCurrents
 mod EndedNumbers
 mod EndedSnapshots
-mod CompactionCalls
-mod CompactionFiles
-pub mod EmptiedFamilies
-pub mod EndedNumbers
 mod FlushCalls
 mod FlushFiles
 mod FlushLaws
 mod FlushedLaws
 mod FrameLaws
-mod LeftNumbers
-mod HeldCompactions
 mod HandedNumbers
 mod HeldCompactions
 mod HeldFlushes
-pub mod HeldLaws
 mod HeldPurges
 mod HeldScans
 mod LeftFlushes
+mod LeftNumbers
 mod LiveLaws
 mod OpeningLaws
 mod OutputLaws
@@ -39,10 +35,8 @@ mod ReadCalls
 mod ReadLaws
 mod ReadParts
 mod RemovalMarks
-pub mod RemovalSteps
 mod RemovedFiles
 mod RetireLaws
-pub mod ScanLaws
 mod ScanSteps
 mod StandLaws
 mod StillLaws
@@ -50,3 +44,8 @@ mod SwitchLaws
 mod TriedNumbers
 mod VacantCells
 mod WriteLaws
+pub mod EmptiedFamilies
+pub mod EndedNumbers
+pub mod HeldLaws
+pub mod RemovalSteps
+pub mod ScanLaws
