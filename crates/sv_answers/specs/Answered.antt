@@ -2,7 +2,7 @@
 use Rattle.std.specs.Prelude.{◌≡◌, ◌≤◌, ℕ, Bool}
 use Rattle.sv_model.specs.Books.{Books, FileRegister}
 use Rattle.sv_model.specs.Faults.{RoseBy}
-pub use Rattle.sv_store.specs.HeldFiles.{IsHeld, KeepsHeld}
+pub use Rattle.sv_store.specs.HeldFiles.{IsHeld, KeepsHeld, LeavesOthers}
 use Rattle.sv_store.specs.Purging.{PurgeStops, Purges}
 use Rattle.sv_store.specs.Removals.{DirSeen}
 use Rattle.sv_store.specs.Scanning.{ScanStops, Scans}
