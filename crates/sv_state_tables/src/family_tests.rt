@@ -1,12 +1,12 @@
 // Families at the state: who is answered what, in turn.
-use crate::bench::Bench;
-use crate::calls::Answer::{Count, Done, Family, File, Numbers, Refused, Super, Totals};
-use crate::calls::Call::{By, Current, Gone, Made, Purge};
-use crate::calls::Deed::{Compact, Create, Drop, Find, Flush, Open, Put, Release};
-use crate::calls::{Answer, Call, expect};
+use crate::tables::{expect, expect_closed};
 use std::rt::HostRuntime;
 use std::test::Fail;
 use sv_model::Refusal::{AlreadyOpen, Dropped, NameTaken, NoFamily, NotOpen, TooManyFamilies};
+use sv_state_bench::Answer::{Count, Done, Family, File, Numbers, Refused, Super, Totals};
+use sv_state_bench::Call::{By, Current, Gone, Made, Purge};
+use sv_state_bench::Deed::{Compact, Create, Drop, Find, Flush, Open, Put, Release};
+use sv_state_bench::{Answer, Bench, Call};
 
 const NAMES: [&str; 16] = [
     "c1", "c2", "c3", "c4", "c5", "c6", "c7", "c8", "c9", "c10", "c11", "c12", "c13", "c14", "c15",
@@ -55,7 +55,7 @@ const COLD: [(Call, Answer); 17] = [
 fn retires_a_dropped_family(rt: HostRuntime) -> Result<(), Fail> {
     let mut bench = Bench::new(rt.alloc(), 1)?;
     expect(&rt, &mut bench, &COLD);
-    Ok(())
+    expect_closed(&rt, bench, (4, 3, 1), (4, 3, 1))
 }
 
 // A name is taken again while another lane has a handle of the dropped family.
@@ -83,5 +83,5 @@ const TWO_LANES: [(Call, Answer); 17] = [
 fn reads_a_dropped_family_by_its_handles(rt: HostRuntime) -> Result<(), Fail> {
     let mut bench = Bench::new(rt.alloc(), 1)?;
     expect(&rt, &mut bench, &TWO_LANES);
-    Ok(())
+    expect_closed(&rt, bench, (3, 3, 0), (3, 3, 0))
 }

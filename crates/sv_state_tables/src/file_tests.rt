@@ -1,12 +1,14 @@
 // Files that become Obsolete, and when they go.
-use crate::bench::Bench;
-use crate::calls::Answer::{Count, Done, File, Nothing, Numbers, Refused, Super, Totals};
-use crate::calls::Call::{By, Clean, Current, Files, Gone, Hold, Keep, Live, Made, Purge, Unhold};
-use crate::calls::Deed::{Compact, Flush, Put};
-use crate::calls::{Answer, Call, expect};
+use crate::tables::{expect, expect_closed};
 use std::rt::HostRuntime;
 use std::test::Fail;
 use sv_model::Refusal::{Disabled, NoHold, NothingToCompact};
+use sv_state_bench::Answer::{Count, Done, File, Nothing, Numbers, Refused, Super, Totals};
+use sv_state_bench::Call::{
+    By, Clean, Current, Files, Gone, Hold, Keep, Live, Made, Purge, Unhold,
+};
+use sv_state_bench::Deed::{Compact, Flush, Put};
+use sv_state_bench::{Answer, Bench, Call};
 
 // The SuperVersion before the compaction waits, as for a pin.
 const PINNED: [(Call, Answer); 18] = [
@@ -34,7 +36,7 @@ const PINNED: [(Call, Answer); 18] = [
 fn keeps_the_files_of_what_waits(rt: HostRuntime) -> Result<(), Fail> {
     let mut bench = Bench::new(rt.alloc(), 1)?;
     expect(&rt, &mut bench, &PINNED);
-    Ok(())
+    expect_closed(&rt, bench, (6, 3, 3), (6, 3, 2))
 }
 
 const HELD: [(Call, Answer); 16] = [

@@ -1,12 +1,12 @@
 // Flushes and compactions under way, and those that fail.
-use crate::bench::Bench;
-use crate::calls::Answer::{Count, Family, File, Nothing, Numbers, Refused, Super, Totals};
-use crate::calls::Call::{By, Current, End, Files, GiveUp, Gone, Left, Made, Purge};
-use crate::calls::Deed::{BeginCompaction, BeginFlush, Compact, Create, Drop, Flush, Put};
-use crate::calls::{Answer, Call, expect};
+use crate::tables::{expect, expect_closed};
 use std::rt::HostRuntime;
 use std::test::Fail;
 use sv_model::Refusal::{Busy, Dropped, NothingToFlush};
+use sv_state_bench::Answer::{Count, Family, File, Nothing, Numbers, Refused, Super, Totals};
+use sv_state_bench::Call::{By, Current, End, Files, GiveUp, Gone, Left, Made, Purge};
+use sv_state_bench::Deed::{BeginCompaction, BeginFlush, Compact, Create, Drop, Flush, Put};
+use sv_state_bench::{Answer, Bench, Call};
 
 const BUSY: [(Call, Answer); 11] = [
     (By(1, "default", BeginFlush), Refused(NothingToFlush)),
@@ -52,7 +52,7 @@ const FAILED: [(Call, Answer); 12] = [
 fn gives_up_what_failed(rt: HostRuntime) -> Result<(), Fail> {
     let mut bench = Bench::new(rt.alloc(), 1)?;
     expect(&rt, &mut bench, &FAILED);
-    Ok(())
+    expect_closed(&rt, bench, (3, 2, 2), (3, 2, 1))
 }
 
 // The first removal of file 1 fails.
@@ -72,7 +72,7 @@ const KEPT: [(Call, Answer); 9] = [
 fn removes_again_what_stayed(rt: HostRuntime) -> Result<(), Fail> {
     let mut bench = Bench::new(rt.alloc(), 1)?;
     expect(&rt, &mut bench, &KEPT);
-    Ok(())
+    expect_closed(&rt, bench, (4, 2, 2), (4, 2, 1))
 }
 
 // A family is dropped while its flush is under way.

@@ -1,12 +1,12 @@
 // Snapshots: where they read, and what files keep for them.
-use crate::bench::Bench;
-use crate::calls::Answer::{Count, Done, Family, File, Nothing, Refused, Super};
-use crate::calls::Call::{By, Cut, Cuts, End, Snap, Unsnap};
-use crate::calls::Deed::{BeginCompaction, BeginFlush, Compact, Create, Flush, Put};
-use crate::calls::{Answer, Call, expect};
+use crate::tables::expect;
 use std::rt::HostRuntime;
 use std::test::Fail;
 use sv_model::Refusal::{NoSnapshot, NothingToCompact, TooManySnapshots};
+use sv_state_bench::Answer::{Count, Done, Family, File, Nothing, Refused, Super};
+use sv_state_bench::Call::{By, Cut, Cuts, End, Snap, Unsnap};
+use sv_state_bench::Deed::{BeginCompaction, BeginFlush, Compact, Create, Flush, Put};
+use sv_state_bench::{Answer, Bench, Call};
 
 const CUTS: [(Call, Answer); 20] = [
     (By(1, "default", Put("a")), Count(1)),

@@ -1,0 +1,9 @@
+mod CallLaws
+mod CurrentRefs
+mod Installs
+mod KeptFamilies
+mod KeptStores
+mod OutputLaws
+mod Releases
+mod Standings
+mod Writings

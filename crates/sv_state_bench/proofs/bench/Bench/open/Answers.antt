@@ -1,0 +1,8 @@
+use Rattle.sv_state_bench.proofs.Standings.{opened-stands}
+use Rattle.sv_state_bench.proofs.bench.Bench.open.Goals as goal
+
+pub invariant_of-self : goal.invariant_of-self
+invariant_of-self c =
+    let k = c.open_family in
+    let i = c.self.inside in
+    opened-stands i.state k.new.self i.actives.items i.outputs.items i.waiting.items c.self.invariant k.ensures.follows.sound c.args.lane k.result k.ensures.opened k.ensures.kept

@@ -1,5 +1,0 @@
-mod CallLaws
-mod Installs
-mod OutputLaws
-mod Standings
-mod Writings
