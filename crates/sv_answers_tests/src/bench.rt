@@ -3,8 +3,8 @@ use std::alloc::Global;
 use std::process::Abort;
 use std::test::*;
 use sv_answers::{
-    create, delete, drop_family, get, gets, hold, live, open, put, release, set, snap, unhold,
-    unsnap,
+    compact, create, delete, drop_family, get, gets, hold, live, open, put, release, set, snap,
+    unhold, unsnap,
 };
 use sv_dir::MemDir;
 use sv_model::{Items, Name, OptionName};
@@ -25,6 +25,7 @@ pub enum Deed {
     Rows(&'static str, u64),
     Lists(&'static str, u64),
     Flush(&'static str),
+    Compact(&'static str),
     Purge,
     Hold,
     Unhold,
@@ -74,6 +75,7 @@ fn reply_to(alloc: Global, store: &mut Store, dir: &mut MemDir, deed: Deed) -> R
             },
             Err(refusal) => Reply::Refused(refusal),
         },
+        Deed::Compact(name) => compact(store, dir, &name_of(name)?),
         Deed::Purge => match store.purge(dir) {
             Ok(files) => Reply::Purge(Items::from_vec(files)),
             Err(refusal) => Reply::Refused(refusal),
