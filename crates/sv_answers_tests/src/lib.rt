@@ -4,6 +4,8 @@
 #[cfg(test)]
 mod bench;
 #[cfg(test)]
+mod compactions;
+#[cfg(test)]
 mod families;
 #[cfg(test)]
 mod flushes;
