@@ -1,3 +1,4 @@
+use Rattle.std.proofs.Common.{refl}
 use Rattle.std.specs.Prelude.{Ok, Err}
 use Rattle.sv_answers.proofs.FlushAnswers.{flush-replies}
 use Rattle.sv_answers.proofs.flushes.flush.Goals as goal
@@ -13,3 +14,7 @@ returns-in-Err-clause-answered g c told k all =
     let x = c.in-Err.ensures in
     flush-replies told c.args.store.now c.flush.new.self c.laws.ensures.rests x.follows k all c.args.name.now
     (g.D.Dir.files c.args.dir.now) (g.D.Dir.files c.flush.new.dir) (Err c.in-Err.refusal) x.flushed x.refused
+
+pub returns-in-Ok-clause-flushed : goal.returns-in-Ok-clause-flushed
+returns-in-Ok-clause-flushed g c =
+    record { file = c.in-Ok.file; flushes = c.in-Ok.ensures.flushed; number_is = refl; from_is = refl; to_is = refl }
