@@ -2,16 +2,17 @@
 ghost use Rattle.std.specs.Prelude.{◌≡◌, Bool, is_some};
 ghost use Rattle.sv_script.specs.declared.commands.Command.TheVariants as command;
 ghost use Rattle.sv_state.specs.Follows.{Follows};
-ghost use Rattle.sv_answers.specs.Answered.{CountsReply, IsAnswered, IsHeld, LeavesOthers};
+ghost use Rattle.sv_answers.specs.Answered.{CountsReply, IsAnswered, IsHeld, LeavesOthers, TellsFlush};
 
 use sv_dir::Dir;
 use sv_model::Name;
 use sv_script::Reply;
 use sv_store::Store;
 
-/// Answers `flush`.
+/// Answers `flush`: the number of the file, and the range of writes that it covers.
 pub fn flush<D: Dir>(store: &mut Store, dir: &mut D, name: &Name) -> Reply
     ensures answered { (told : Bool) → IsAnswered told store.old.books store.new.books (command.Flush name.now) result }
+    ensures flushed { TellsFlush store.old store.new (D.files dir.old) (D.files dir.new) name.now result }
     ensures faults { CountsReply result (D.faults dir.old) (D.faults dir.new) }
     ensures held { IsHeld store.old.books (D.files dir.old) → IsHeld store.new.books (D.files dir.new) }
     ensures told { is_some (D.files dir.new) ≡ is_some (D.files dir.old) }

@@ -1,4 +1,5 @@
 use Rattle.sv_answers.proofs.ToldFiles.{flush-stop-told, flush-told}
+use Rattle.std.proofs.Common.{refl}
 use Rattle.std.specs.Prelude.{Ok, Err}
 use Rattle.sv_answers.proofs.FlushAnswers.{flush-replies}
 use Rattle.sv_answers.proofs.flushes.flush.Goals as goal
@@ -22,3 +23,7 @@ returns-in-Ok-clause-told g c =
 pub returns-in-Err-clause-told : goal.returns-in-Err-clause-told
 returns-in-Err-clause-told g c =
     flush-stop-told (g.D.Dir.files c.args.dir.now) (g.D.Dir.files c.flush.new.dir) c.args.store.now c.flush.new.self c.args.name.now c.in-Err.refusal c.in-Err.ensures.refused
+
+pub returns-in-Ok-clause-flushed : goal.returns-in-Ok-clause-flushed
+returns-in-Ok-clause-flushed g c =
+    record { file = c.in-Ok.file; flushes = c.in-Ok.ensures.flushed; number_is = refl; from_is = refl; to_is = refl }
