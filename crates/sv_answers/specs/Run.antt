@@ -1,7 +1,7 @@
 -- Which commands the one lane runs.
 use Rattle.std.specs.Prelude.{Bool, true, false, T}
 use Rattle.sv_script.specs.declared.commands.Command.{Command}
-use Rattle.sv_script.specs.declared.commands.Command.TheVariants.{Create, Delete, Drop, Flush, Get, Gets, Hold, Live, Open, Purge, Put, Release, Scan, Set, Snap, Unhold, Unsnap}
+use Rattle.sv_script.specs.declared.commands.Command.TheVariants.{Compact, Create, Delete, Drop, Flush, Get, Gets, Hold, Live, Open, Purge, Put, Release, Scan, Set, Snap, Unhold, Unsnap}
 
 -- the commands that ask nothing of the directory
 abbrev pub asks_none : Command → Bool
@@ -28,6 +28,7 @@ abbrev pub is_run : Command → Bool
 is_run (Get family key) = true
 is_run (Gets snapshot family key) = true
 is_run (Flush family) = true
+is_run (Compact family) = true
 is_run Purge = true
 is_run Scan = true
 is_run command = asks_none command

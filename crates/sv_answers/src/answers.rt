@@ -4,6 +4,7 @@ ghost use Rattle.sv_state.specs.Follows.{Follows};
 ghost use Rattle.sv_answers.specs.Answered.{CountsReply, IsAnswered, IsHeld, KeepsHeld, TellsNoFault};
 ghost use Rattle.sv_answers.specs.Run.{AsksNone, IsRun};
 
+use crate::compactions::compact;
 use crate::families::{create, drop_family, open, release};
 use crate::flushes::flush;
 use crate::holds::{hold, unhold};
@@ -68,6 +69,7 @@ pub fn answer<D: Dir>(alloc: Global, store: &mut Store, dir: &mut D, command: &C
             key,
         } => gets(alloc, store, dir, *snapshot, family, key.as_slice()),
         Command::Flush(family) => flush(store, dir, family),
+        Command::Compact(family) => compact(store, dir, family),
         Command::Purge => purge(store, dir),
         Command::Scan => scan(store, dir),
         _ => answer_in_memory(alloc, store, command),

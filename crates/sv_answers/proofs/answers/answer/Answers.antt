@@ -29,3 +29,8 @@ pub returns-in-Purge-clause-answered : goal.returns-in-Purge-clause-answered
 returns-in-Purge-clause-answered g c held k all =
     let told = is_some (g.D.Dir.files c.args.dir.now) in
     subst (λ (z : Command). Answers (alone told) c.args.store.now.books c.purge.new.store.books k z c.purge.result) (sym c.in-Purge.is) (c.purge.ensures.answered told k all)
+
+pub returns-in-Compact-clause-answered : goal.returns-in-Compact-clause-answered
+returns-in-Compact-clause-answered g c held k all =
+    let told = is_some (g.D.Dir.files c.args.dir.now) in
+    subst (λ (z : Command). Answers (alone told) c.args.store.now.books c.compact.new.store.books k z c.compact.result) (sym c.in-Compact.is) (c.compact.ensures.answered held k all)
