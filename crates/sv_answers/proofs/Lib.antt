@@ -15,4 +15,5 @@ mod RefusalCases
 mod ReleaseAnswers
 mod ScanAnswers
 mod SetAnswers
+mod ToldFiles
 mod WriteAnswers
