@@ -1,3 +1,4 @@
+mod CommandFiles
 mod CompactAnswers
 mod FamilyAnswers
 mod FlushAnswers

@@ -1,7 +1,11 @@
--- Which commands the one lane runs.
+-- Which commands the one lane runs, and what they tell of the files.
 use Rattle.std.specs.Prelude.{Bool, true, false, T}
+use Rattle.sv_model.specs.Books.{FileRegister}
+use Rattle.sv_store.specs.Removals.{DirSeen}
 use Rattle.sv_script.specs.declared.commands.Command.{Command}
 use Rattle.sv_script.specs.declared.commands.Command.TheVariants.{Compact, Create, Delete, Drop, Flush, Get, Gets, Hold, Live, Open, Purge, Put, Release, Scan, Set, Snap, Unhold, Unsnap}
+use Rattle.sv_script.specs.declared.replies.Reply.{Reply}
+use Rattle.sv_answers.specs.Answered.{TellsPurge, TellsScan}
 
 -- the commands that ask nothing of the directory
 abbrev pub asks_none : Command → Bool
@@ -35,3 +39,9 @@ is_run command = asks_none command
 
 abbrev pub IsRun : Command → Type 0
 IsRun command = T (is_run command)
+
+-- what a purge or a scan did to the file register and the directory, as its reply tells it
+abbrev pub TellsFiles : Command → FileRegister → FileRegister → DirSeen → Reply → Type 0
+TellsFiles Purge old new d reply = TellsPurge old new d reply
+TellsFiles Scan old new d reply = TellsScan old new d reply
+TellsFiles command old new d reply = Unit {0}

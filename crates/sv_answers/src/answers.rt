@@ -2,7 +2,7 @@
 ghost use Rattle.std.specs.Prelude.{◌≡◌, Bool, is_some};
 ghost use Rattle.sv_state.specs.Follows.{Follows};
 ghost use Rattle.sv_answers.specs.Answered.{CountsReply, IsAnswered, IsHeld, KeepsHeld, TellsNoFault};
-ghost use Rattle.sv_answers.specs.Run.{AsksNone, IsRun};
+ghost use Rattle.sv_answers.specs.Run.{AsksNone, IsRun, TellsFiles};
 
 use crate::compactions::compact;
 use crate::families::{create, drop_family, open, release};
@@ -56,6 +56,7 @@ fn answer_in_memory(alloc: Global, store: &mut Store, command: &Command) -> Repl
 pub fn answer<D: Dir>(alloc: Global, store: &mut Store, dir: &mut D, command: &Command) -> Reply
     requires built { IsRun command.now }
     ensures answered { IsHeld store.old.books (D.files dir.old) → IsAnswered (is_some (D.files dir.old)) store.old.books store.new.books command.now result }
+    ensures files { TellsFiles command.now store.old.books.files store.new.books.files (record { files = D.files dir.old; later = D.files dir.new; before = D.faults dir.old; now = D.faults dir.new }) result }
     ensures faults { CountsReply result (D.faults dir.old) (D.faults dir.new) }
     ensures held { IsHeld store.old.books (D.files dir.old) → IsHeld store.new.books (D.files dir.new) }
     ensures told { is_some (D.files dir.new) ≡ is_some (D.files dir.old) }

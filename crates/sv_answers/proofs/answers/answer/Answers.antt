@@ -1,8 +1,11 @@
 use Rattle.std.proofs.Common.{is_some, refl, subst, sym}
 use Rattle.sv_script.specs.declared.commands.Command.{Command}
+use Rattle.sv_script.specs.declared.commands.Command.TheVariants as command
+use Rattle.sv_store.specs.Removals.{DirSeen}
 use Rattle.sv_replies.specs.Answers.{Answers}
 use Rattle.sv_answers.specs.Answered.{alone}
 use Rattle.sv_answers.proofs.QuietRefusals.{counts-quiet}
+use Rattle.sv_answers.proofs.CommandFiles.{tells-as, tells-none}
 use Rattle.sv_answers.proofs.answers.answer.Goals as goal
 
 pub returns-in-Scan-clause-answered : goal.returns-in-Scan-clause-answered
@@ -13,7 +16,11 @@ returns-in-Scan-clause-answered g c held k all =
 pub returns-in_default : goal.returns-in_default
 returns-in_default g c =
     let x = c.answer_in_memory in
+    let files = g.D.Dir.files c.args.dir.now in
+    let count = g.D.Dir.faults c.args.dir.now in
+    let d : DirSeen = record { files = files; later = files; before = count; now = count } in
     record {
+      files = tells-none c.args.store.now.books.files x.new.store.books.files d x.result c.args.command.now c.in_default.not-Purge c.in_default.not-Scan;
       answered = λ held. x.ensures.answered (is_some (g.D.Dir.files c.args.dir.now));
       faults = counts-quiet x.result (g.D.Dir.faults c.args.dir.now) x.ensures.quiet;
       held = x.ensures.held (g.D.Dir.files c.args.dir.now);
@@ -35,3 +42,13 @@ pub returns-in-Compact-clause-answered : goal.returns-in-Compact-clause-answered
 returns-in-Compact-clause-answered g c held k all =
     let told = is_some (g.D.Dir.files c.args.dir.now) in
     subst (λ (z : Command). Answers (alone told) c.args.store.now.books c.compact.new.store.books k z c.compact.result) (sym c.in-Compact.is) (c.compact.ensures.answered held k all)
+
+pub returns-in-Purge-clause-files : goal.returns-in-Purge-clause-files
+returns-in-Purge-clause-files g c =
+    let d : DirSeen = record { files = g.D.Dir.files c.args.dir.now; later = g.D.Dir.files c.purge.new.dir; before = g.D.Dir.faults c.args.dir.now; now = g.D.Dir.faults c.purge.new.dir } in
+    tells-as c.args.store.now.books.files c.purge.new.store.books.files d c.purge.result c.args.command.now command.Purge c.in-Purge.is c.purge.ensures.purged
+
+pub returns-in-Scan-clause-files : goal.returns-in-Scan-clause-files
+returns-in-Scan-clause-files g c =
+    let d : DirSeen = record { files = g.D.Dir.files c.args.dir.now; later = g.D.Dir.files c.scan.new.dir; before = g.D.Dir.faults c.args.dir.now; now = g.D.Dir.faults c.scan.new.dir } in
+    tells-as c.args.store.now.books.files c.scan.new.store.books.files d c.scan.result c.args.command.now command.Scan c.in-Scan.is c.scan.ensures.scanned
