@@ -8,8 +8,9 @@ mod ClosingSteps
 mod CompactionCalls
 mod CompactionFiles
 mod CurrentCases
+pub mod EmptiedFamilies
 mod EndedCurrents
-mod EndedNumbers
+pub mod EndedNumbers
 mod EndedSnapshots
 mod FlushCalls
 mod FlushFiles
@@ -19,6 +20,7 @@ mod FrameLaws
 mod HandedNumbers
 mod HeldCompactions
 mod HeldFlushes
+pub mod HeldLaws
 mod HeldPurges
 mod HeldScans
 mod LeftFlushes
@@ -35,8 +37,10 @@ mod ReadCalls
 mod ReadLaws
 mod ReadParts
 mod RemovalMarks
+pub mod RemovalSteps
 mod RemovedFiles
 mod RetireLaws
+pub mod ScanLaws
 mod ScanSteps
 mod StandLaws
 mod StillLaws
@@ -44,8 +48,3 @@ mod SwitchLaws
 mod TriedNumbers
 mod VacantCells
 mod WriteLaws
-pub mod EmptiedFamilies
-pub mod EndedNumbers
-pub mod HeldLaws
-pub mod RemovalSteps
-pub mod ScanLaws

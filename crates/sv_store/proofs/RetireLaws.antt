@@ -14,6 +14,7 @@ use Rattle.sv_model.specs.Registers.{entry}
 use Rattle.sv_model.specs.Steady.{Sound}
 use Rattle.sv_model.proofs.Entries.{some}
 use Rattle.sv_laws.specs.Families.{IsReleased, IsRetired, released}
+use Rattle.sv_laws.specs.Growing.{IsPlaced}
 use Rattle.sv_laws.proofs.GrownRegisters.{placed-set}
 use Rattle.sv_laws.proofs.Handles.{not-retired}
 use Rattle.sv_laws.proofs.OpenFamilies.{current-top}
@@ -21,39 +22,29 @@ use Rattle.sv_objects.specs.declared.bodies.Body.{Body}
 use Rattle.sv_state.specs.Gone.{IsReleasedAs}
 use Rattle.sv_state.specs.Refs.{IsKept, IsRefOf}
 use Rattle.sv_store.specs.Cells.{CellsHold}
+use Rattle.sv_store.specs.Ending.{LosesCurrent}
 use Rattle.sv_store.specs.Going.{CurrentGoes, PackGoes}
 use Rattle.sv_store.specs.Standing.{HaveCurrents, IsAloneBut, IsStill, Rests, Stands}
 use Rattle.sv_store.specs.Writing.{CanObey}
+use Rattle.sv_store.proofs.EndedCurrents.{lost-alone, lost-free, ref, super-on, was-live}
 use Rattle.sv_store.proofs.FrameLaws.{family-stands}
 use Rattle.sv_store.proofs.StandLaws.{one-serial}
 use Rattle.sv_store.proofs.StillLaws.{cleaned-still}
 
 module _ (a m : Books) (cells : List (Option Cell)) (h : Stands a cells None) (sound : Sound m) (f lane : ℕ) (w : IsRetired a m f lane)
     (old : Option (SvRef Body)) (kept : (t : Top) → slice_get a.tops f ≡ Some t → IsKept a t.current old) where
-  abbrev ended : Top
-  ended = record w.top { current = None }
+  loses : LosesCurrent a m f
+  loses = record {
+    top = w.top;
+    on = w.on;
+    s = w.s;
+    current = w.current;
+    placed = subst (λ (z : Books). IsPlaced a.tops z.tops f (record w.top { current = None })) (sym w.is) (placed-set a.tops f w.top (record w.top { current = None }) w.on);
+    is = subst (λ (z : Books). z ≡ record a { families = z.families; tops = z.tops }) (sym w.is) refl;
+  }
 
-  kept-ref : (cur : Option ℕ) → cur ≡ Some w.s → (x : Option (SvRef Body)) → IsKept a cur x → (r : SvRef Body) × (x ≡ Some r) × IsRefOf a w.s r.pack r.body.value
-  kept-ref None q x k = absurd (cc)
-  kept-ref (Some n) q None k = absurd k
-  kept-ref (Some n) q (Some z) k = (z, refl, subst (λ i. IsRefOf a i z.pack z.body.value) (some q) k)
-
-  ref : (r : SvRef Body) × (old ≡ Some r) × IsRefOf a w.s r.pack r.body.value
-  ref = kept-ref w.top.current w.current old (kept w.top w.on)
-
-  top-here : slice_get m.tops f ≡ Some ended
-  top-here = ap (λ (z : Books). slice_get z.tops f) w.is ∙ (placed-set a.tops f w.top ended w.on).here
-
-  top-else : (g : ℕ) → g ≢ f → slice_get m.tops g ≡ slice_get a.tops g
-  top-else g d = ap (λ (z : Books). slice_get z.tops g) w.is ∙ (placed-set a.tops f w.top ended w.on).others g d
-
-  super-on : (n : ℕ) → entry m.supers n ≡ entry a.supers n
-  super-on n = ap (λ (z : Books). entry z.supers n) w.is
-
-  live : (it : SuperVersion) → entry a.supers w.s ≡ Some it → it.live ≡ true
-  live it at =
-      let t = (current-top a h.sound.lawful f w.s w.top w.on w.current).2 in
-      subst (λ (z : SuperVersion). z.live ≡ true) (some (sym t.at ∙ at)) t.live
+  r : (x : SvRef Body) × (old ≡ Some x) × IsRefOf a w.s x.pack x.body.value
+  r = ref a m h.sound f loses old kept
 
   currents : HaveCurrents m
   currents g y e stands = dite (ℕ_discrete g f)
@@ -64,51 +55,29 @@ module _ (a m : Books) (cells : List (Option Cell)) (h : Stands a cells None) (s
       absurd (cc))
       (λ q.
       let c = h.currents g y (sym ((placed-set a.families f w.it (released w.it lane) w.at).others g q) ∙ ap (λ (z : Books). slice_get z.families g) (sym w.is) ∙ e) stands in
-      record { top = c.top; at = top-else g q ∙ c.at; serial = c.serial; is = c.is })
+      record { top = c.top; at = loses.placed.others g q ∙ c.at; serial = c.serial; is = c.is })
 
-  -- what is current of no family now was the current of this one
-  alone : IsAloneBut m (Some ref.0.pack)
-  alone n y at l = ⊎_elim
-      (λ (k : HasCurrent a.tops n). dite (ℕ_discrete k.0 f)
-      (λ q.
-      let n_is : w.s ≡ n = some (sym w.current ∙ ap (λ (z : Top). z.current) (some (sym w.on ∙ ap (slice_get a.tops) (sym q) ∙ k.2)) ∙ k.3) in
-      let it_is : ref.2.it ≡ y = some (sym ref.2.at ∙ ap (entry a.supers) n_is ∙ sym (super-on n) ∙ at) in
-      inr (subst (λ (z : ℕ × SuperVersion). ref.0.pack ≡ z.0 * 256 + z.1.place) (λ i. (n_is i, it_is i)) ref.2.pack_is))
-      (λ q. inl (k.0, k.1, top-else k.0 q ∙ k.2, k.3)))
-      (λ k. absurd k)
-      (h.alone n y (sym (super-on n) ∙ at) l)
-
-  free : (g : ℕ) (t : Top) → slice_get m.tops g ≡ Some t → t.current ≡ Some w.s → ⊥
-  free g t e cur = dite (ℕ_discrete g f)
-      (λ q.
-      let z : None ≡ Some w.s = ap (λ (x : Top). x.current) (some (sym top-here ∙ ap (slice_get m.tops) (sym q) ∙ e)) ∙ cur in
-      absurd (cc))
-      (λ q.
-      let here = (current-top a h.sound.lawful f w.s w.top w.on w.current).2 in
-      let there = (current-top a h.sound.lawful g w.s t (sym (top-else g q) ∙ e) cur).2 in
-      q (sym there.family_is ∙ ap (λ (z : SuperVersion). z.descriptor.family) (some (sym there.at ∙ here.at)) ∙ here.family_is))
-
-  waits : Stands m cells (Some ref.0.pack)
+  waits : Stands m cells (Some r.0.pack)
   waits = record {
     sound = sound;
     currents = currents;
-    alone = alone;
-    goes = record { serial = w.s; it = ref.2.it; at = super-on w.s ∙ ref.2.at; live = live ref.2.it ref.2.at; pack_is = ref.2.pack_is; free = free };
+    alone = lost-alone a m h.sound f loses old kept (λ n y at l. ⊎_elim (λ k. k) (λ k. absurd k) (h.alone n y at l));
+    goes = lost-free a m h.sound f loses old kept;
     cells_hold = subst (λ (z : Books). CellsHold z.journal z.memtables cells) (sym w.is) h.cells_hold;
   }
 
   -- the current before waits
   pub retired-obeys : CanObey m cells None old
-  retired-obeys = record { within = λ cell mem e. absurd (cc); r = ref.0; old_is = ref.1; stands = waits }
+  retired-obeys = record { within = λ cell mem e. absurd (cc); r = r.0; old_is = r.1; stands = waits }
 
-  module _ (b : Books) (r : SvRef Body) (e : old ≡ Some r) (p : PackGoes m b r.pack) where
+  module _ (b : Books) (x : SvRef Body) (e : old ≡ Some x) (p : PackGoes m b x.pack) where
     at-before : entry a.supers p.s ≡ Some p.x
-    at-before = sym (super-on p.s) ∙ p.cleaned.at
+    at-before = sym (super-on a m h.sound f loses old kept p.s) ∙ p.cleaned.at
 
     same : w.s ≡ p.s
     same =
-        let i : IsRefOf a w.s r.pack r.body.value = subst (λ (z : SvRef Body). IsRefOf a w.s z.pack z.body.value) (some (sym ref.1 ∙ e)) ref.2 in
-        let low = (h.sound.lawful.places w.s i.it i.at (live i.it i.at)).0 in
+        let i : IsRefOf a w.s x.pack x.body.value = subst (λ (z : SvRef Body). IsRefOf a w.s z.pack z.body.value) (some (sym r.1 ∙ e)) r.2 in
+        let low = (h.sound.lawful.places w.s i.it i.at (was-live a m h.sound f loses old kept i.it i.at)).0 in
         let high = (h.sound.lawful.places p.s p.x at-before p.cleaned.live).0 in
         one-serial w.s p.s i.it.place p.x.place low high (sym i.pack_is ∙ p.pack_is)
 
