@@ -1,2 +1,1 @@
 mod PlayedLines
-pub mod playing

@@ -16,7 +16,7 @@ use Rattle.sv_model.specs.Steady.{IsCurrent, Sound}
 use Rattle.sv_model.proofs.Basics.{apart_or, none_some}
 use Rattle.sv_model.proofs.Registers.{entry-new, entry-old, entry_change, entry_le, entry_push, goes-push, goes-same}
 use Rattle.sv_model.proofs.AfterLaws.{list-itself}
-use Rattle.sv_laws.specs.Changes.{Changes, cleaned, compacted, created, current_ended, dropped, flush_begun, flushed, given_up, grabbed, held, merge_planned, opened, option_set, released, retired, snapped, stray, switched, unsnapped, written}
+use Rattle.sv_laws.specs.Changes.{Changes, cleaned, compacted, created, current_ended, dropped, flush_begun, flushed, forgotten, given_up, grabbed, held, merge_planned, opened, option_set, released, retired, snapped, stray, switched, unsnapped, written}
 use Rattle.sv_laws.specs.Cleaning.{IsCleaned}
 use Rattle.sv_laws.specs.Growing.{IsPlaced}
 use Rattle.sv_laws.specs.Installs.{live_super, next_top}
@@ -182,6 +182,8 @@ module _ (a b : Books) (sound : Sound a) (frozen : ActivesAreFrozen a) where
   frozen_kept (unsnapped n x h) =
       stands a b frozen (ap (λ (z : Books). z.supers) h.is) (ap (λ (z : Books). z.tops) h.is) (ap (λ (z : Books). z.lists) h.is)
   frozen_kept (retired f lane h) =
+      ends a b frozen f h.top h.on (ap (λ (x : Books). x.supers) h.is) (ap (λ (x : Books). x.tops) h.is) (ap (λ (x : Books). x.lists) h.is)
+  frozen_kept (forgotten f h) =
       ends a b frozen f h.top h.on (ap (λ (x : Books). x.supers) h.is) (ap (λ (x : Books). x.tops) h.is) (ap (λ (x : Books). x.lists) h.is)
   frozen_kept (current_ended f h) =
       ends a b frozen f h.top h.on (ap (λ (x : Books). x.supers) h.is) (ap (λ (x : Books). x.tops) h.is) (ap (λ (x : Books). x.lists) h.is)

@@ -33,7 +33,7 @@ use Rattle.sv_store.proofs.StillLaws.{cleaned-still}
 
 module _ (a m : Books) (cells : List (Option Cell)) (h : Stands a cells None) (sound : Sound m) (f lane : ℕ) (w : IsRetired a m f lane)
     (old : Option (SvRef Body)) (kept : (t : Top) → slice_get a.tops f ≡ Some t → IsKept a t.current old) where
-  loses : LosesCurrent a m f
+  abbrev loses : LosesCurrent a m f
   loses = record {
     top = w.top;
     on = w.on;
@@ -43,7 +43,7 @@ module _ (a m : Books) (cells : List (Option Cell)) (h : Stands a cells None) (s
     is = subst (λ (z : Books). z ≡ record a { families = z.families; tops = z.tops }) (sym w.is) refl;
   }
 
-  r : (x : SvRef Body) × (old ≡ Some x) × IsRefOf a w.s x.pack x.body.value
+  abbrev r : (x : SvRef Body) × (old ≡ Some x) × IsRefOf a w.s x.pack x.body.value
   r = ref a m h.sound f loses old kept
 
   currents : HaveCurrents m
