@@ -1,5 +1,5 @@
 -- Each change keeps active memtables frozen that are no current's.
-use Rattle.std.proofs.Common.{◌≡◌, ◌≢◌, ◌+◌, ◌⊎◌, inl, inr, ⊎_elim, ℕ, suc, true, false, List, [], ◌∷◌, ◌++◌, length, Some, None, refl, sym, ◌∙◌, ap, subst, arith}
+use Rattle.std.proofs.Common.{◌≡◌, ◌≢◌, ◌+◌, ◌⊎◌, inl, inr, ⊎_elim, ℕ, true, false, List, [], ◌∷◌, ◌++◌, length, Some, None, refl, sym, ◌∙◌, ap, subst, arith}
 use Rattle.std.specs.Prelude.{slice_get, slice_set}
 use Rattle.sv_model.specs.declared.records.Descriptor.{Descriptor}
 use Rattle.sv_model.specs.declared.records.MemtableList.{MemtableList}
@@ -14,7 +14,7 @@ use Rattle.sv_model.specs.Openings.{opening_books}
 use Rattle.sv_model.specs.Registers.{GoesOn, change, entry}
 use Rattle.sv_model.specs.Steady.{IsCurrent, Sound}
 use Rattle.sv_model.proofs.Basics.{apart_or, none_some}
-use Rattle.sv_model.proofs.Registers.{entry-new, entry-old, entry_change, entry_le, entry_push, goes-push, goes-same}
+use Rattle.sv_model.proofs.Registers.{entry-new, entry_change, entry_le, entry_push, goes-push, goes-same}
 use Rattle.sv_model.proofs.AfterLaws.{list-itself}
 use Rattle.sv_laws.specs.Changes.{Changes, cleaned, compacted, created, current_ended, dropped, flush_begun, flushed, forgotten, given_up, grabbed, held, merge_planned, opened, option_set, released, retired, snapped, stray, switched, unsnapped, written}
 use Rattle.sv_laws.specs.Cleaning.{IsCleaned}
@@ -23,7 +23,7 @@ use Rattle.sv_laws.specs.Installs.{live_super, next_top}
 use Rattle.sv_laws.proofs.GrownRegisters.{placed-push, placed-set}
 use Rattle.sv_model.proofs.Entries.{entry_one, in-right, some}
 use Rattle.sv_laws.proofs.OpenFamilies.{current-top, of_f}
-use Rattle.sv_replies.specs.FrozenActives.{ActivesAreFrozen, IsActiveOrListed, WasListed}
+use Rattle.sv_replies.specs.FrozenActives.{ActivesAreFrozen, WasListed}
 use Rattle.sv_replies.proofs.AfterLemmas.{has-later}
 
 -- a member of a list stays one

@@ -1,5 +1,5 @@
 -- What stands after a close.
-use Rattle.std.proofs.Common.{◌≡◌, ◌<◌, ◌⊎◌, inl, inr, ⊎_elim, ℕ, Bool, true, false, Option, Some, None, length, refl, sym, ap, ◌∙◌, subst, arith}
+use Rattle.std.proofs.Common.{◌≡◌, inl, inr, ⊎_elim, ℕ, Bool, true, false, Some, None, refl, sym, ap, ◌∙◌, subst}
 use Rattle.std.specs.Prelude.{slice_get}
 use Rattle.sv_model.specs.declared.records.Family.{Family}
 use Rattle.sv_model.specs.declared.records.FileStatus.{FileStatus}
@@ -12,14 +12,12 @@ use Rattle.sv_model.specs.declared.records.Top.{Top}
 use Rattle.sv_model.specs.Books.{Books, files_of}
 use Rattle.sv_model.specs.Families.{is_retired}
 use Rattle.sv_model.specs.Lists.{In}
-use Rattle.sv_model.specs.Named.{HasLast, NamedVersion, UsesVersion, list_live, memtable_live, numbers_of, super_live}
+use Rattle.sv_model.specs.Named.{HasLast, UsesVersion, list_live, memtable_live, numbers_of, super_live}
 use Rattle.sv_model.specs.Numbers.{IsRegistered}
-use Rattle.sv_model.specs.Registers.{EachEntry, Has, entry}
+use Rattle.sv_model.specs.Registers.{Has, entry}
 use Rattle.sv_model.specs.Steady.{Sound}
-use Rattle.sv_model.proofs.Registers.{get-some}
 use Rattle.sv_journal.specs.Calls.{AreEnded}
 use Rattle.sv_laws.proofs.Apart.{false_true}
-use Rattle.sv_laws.proofs.GrownRegisters.{get_within}
 use Rattle.sv_laws.proofs.Handles.{not-retired-open}
 use Rattle.sv_laws.proofs.StillFits.{files-at}
 use Rattle.sv_state.specs.Currents.{IsShownFile}
@@ -91,10 +89,15 @@ module _ (b : Books) (sound : Sound b) (alone : IsAlone b) (still : IsStill b.fi
         stands = not-retired-open s.stands.it s.stands.stands;
         is = refl;
       })) in
-      (sound.lawful.files n).1 (v, named.it, named.at, record {
-        live = named.live;
-        has = subst (λ l. In n (numbers_of l)) (files-at b.versions v named.it named.at) s.has;
-      })
+      (sound.lawful.files n).1 (
+        v,
+        named.it,
+        named.at,
+        record {
+          live = named.live;
+          has = subst (λ l. In n (numbers_of l)) (files-at b.versions v named.it named.at) s.has;
+        },
+      )
 
   pub is-closed : IsClosed b
   is-closed = record {

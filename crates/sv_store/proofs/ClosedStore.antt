@@ -1,15 +1,13 @@
 -- The close, put together: holds and snapshots end, then currents, then files are removed.
-use Rattle.std.proofs.Common.{◌≡◌, ◌<◌, ◌↔◌, ⊎_elim, ℕ, List, Option, Some, None, length, refl, sym, ap, ◌∙◌, subst, arith}
+use Rattle.std.proofs.Common.{◌≡◌, ◌<◌, ⊎_elim, ℕ, List, Option, Some, None, length, refl, sym, ap, ◌∙◌, subst, arith}
 use Rattle.std.specs.Prelude.{slice_get, sum}
 use Rattle.std.proofs.lemmas.List.{length-map}
 use Rattle.sv_model.specs.declared.records.Family.{Family}
 use Rattle.sv_model.specs.declared.records.FileStatus.TheVariants.{Gone}
-use Rattle.sv_model.specs.declared.records.RegisteredFile.{RegisteredFile}
 use Rattle.sv_model.specs.declared.records.Snapshot.{Snapshot}
 use Rattle.sv_model.specs.declared.records.Top.{Top}
 use Rattle.sv_model.specs.Books.{Books, FileRegister}
 use Rattle.sv_model.specs.Cells.{Cell}
-use Rattle.sv_model.specs.Lists.{In}
 use Rattle.sv_model.specs.Numbers.{IsRegistered}
 use Rattle.sv_model.specs.Steady.{Sound}
 use Rattle.sv_files.specs.Calls.{without_holds}
@@ -78,14 +76,14 @@ module _ (a b : Books) (cells : List (Option Cell)) (rests : Rests a cells) (e :
           ∙ ap (λ (z : FileRegister). record m { files = z }) r.is
           ∙ ap (λ (z : Books). record z { files = with_gone z.files r.gone }) h.makes.is
           ∙ ap (λ (z : Books). record z {
-        supers = m.supers;
-        memtables = m.memtables;
-        lists = m.lists;
-        versions = m.versions;
-        files = with_gone (record z.files { numbers = m.files.numbers }) r.gone;
-        families = m.families;
-        tops = m.tops;
-      }) e
+            supers = m.supers;
+            memtables = m.memtables;
+            lists = m.lists;
+            versions = m.versions;
+            files = with_gone (record z.files { numbers = m.files.numbers }) r.gone;
+            families = m.families;
+            tops = m.tops;
+          }) e
 
       lasts : (f : ℕ) (t : Top) → slice_get a.tops f ≡ Some t → slice_get n.tops f ≡ Some (record t { current = None })
       lasts f t at =

@@ -1,5 +1,5 @@
 -- One family after the other is let go at the close.
-use Rattle.std.proofs.Common.{◌≡◌, ◌≢◌, ◌<◌, ◌≤◌, ◌+◌, ◌⊎◌, inl, inr, ⊎_elim, ℕ, Bool, true, false, Option, Some, None, length, refl, sym, ap, ◌∙◌, subst, arith}
+use Rattle.std.proofs.Common.{◌≡◌, ◌≢◌, ◌<◌, ◌+◌, ◌⊎◌, ⊎_elim, ℕ, Bool, true, false, Option, Some, None, length, refl, sym, ap, ◌∙◌, subst, arith}
 use Rattle.std.specs.Prelude.{slice_get}
 use Rattle.sv_model.specs.declared.records.Family.{Family}
 use Rattle.sv_model.specs.declared.records.FileStatus.TheVariants.{Gone}
@@ -15,7 +15,7 @@ use Rattle.sv_model.proofs.Entries.{some}
 use Rattle.sv_model.proofs.Registers.{length-change}
 use Rattle.sv_laws.specs.Cleaning.{IsCleaned, without}
 use Rattle.sv_laws.specs.Growing.{IsPlaced}
-use Rattle.sv_laws.proofs.Apart.{false_true, obsolete_gone}
+use Rattle.sv_laws.proofs.Apart.{obsolete_gone}
 use Rattle.sv_laws.proofs.Registers.{goes-back}
 use Rattle.sv_objects.specs.declared.bodies.Body.{Body}
 use Rattle.sv_state.specs.Currents.{HasCurrentAt}

@@ -1,5 +1,5 @@
 -- A Live snapshot ends at the close.
-use Rattle.std.proofs.Common.{◌≡◌, ◌<◌, ℕ, true, false, cond, not, Option, Some, None, Result, Ok, Err, length, option_map, unwrap_or, refl, sym, ap, ◌∙◌, subst, arith}
+use Rattle.std.proofs.Common.{◌≡◌, ◌<◌, ℕ, true, false, cond, not, Some, None, Result, Ok, Err, length, option_map, unwrap_or, refl, sym, ap, ◌∙◌, subst, arith}
 use Rattle.std.specs.Prelude.{OnOk}
 use Rattle.sv_model.specs.declared.records.Snapshot.{Snapshot}
 use Rattle.sv_model.specs.declared.refusals.Refusal.{Refusal}
@@ -7,7 +7,6 @@ use Rattle.sv_model.specs.declared.refusals.Refusal.TheVariants as refusal
 use Rattle.sv_model.specs.Books.{Books}
 use Rattle.sv_model.specs.Lists.{bit, total}
 use Rattle.sv_model.specs.Refusals.{RefusesExactly}
-use Rattle.sv_model.specs.Registers.{entry}
 use Rattle.sv_model.proofs.Registers.{length-change, total-change}
 use Rattle.sv_journal.specs.Calls.{IsNewest, is_live_snapshot, snapshot_refusal}
 use Rattle.sv_state.specs.Taken.{IsEnded}

@@ -1,7 +1,7 @@
 -- A scan leaves each Live number with the file that was written.
-use Rattle.std.proofs.Common.{◌≡◌, ◌<◌, ◌^◌, ◌⊎◌, ⊎_elim, ℕ, List, [], map, Option, Some, Result, Ok, Err, refl, sym, ap, ◌∙◌, subst}
+use Rattle.std.proofs.Common.{◌≡◌, ◌<◌, ◌^◌, ◌⊎◌, ⊎_elim, ℕ, List, [], map, Option, Some, Result, Ok, Err, sym, ap, ◌∙◌, subst}
 use Rattle.std.specs.Prelude.{IfErr, IfOk}
-use Rattle.sv_model.specs.declared.records.FileStatus.TheVariants.{Gone, Live, Obsolete}
+use Rattle.sv_model.specs.declared.records.FileStatus.TheVariants.{Live, Obsolete}
 use Rattle.sv_model.specs.declared.records.RegisteredFile.{RegisteredFile}
 use Rattle.sv_model.specs.declared.refusals.Refusal.{Refusal}
 use Rattle.sv_model.specs.declared.refusals.Refusal.TheVariants as refusal
@@ -18,10 +18,10 @@ use Rattle.sv_laws.proofs.Apart.{live_gone, live_obsolete}
 use Rattle.sv_state.specs.Follows.{Follows}
 use Rattle.sv_store.specs.HeldFiles.{IsHeld}
 use Rattle.sv_store.specs.Removals.{Removes, ended, with_gone}
-use Rattle.sv_store.specs.Scanning.{HandsOut, HandsOutNone, ScanStops, Scans, ScansSome, with_strays}
+use Rattle.sv_store.specs.Scanning.{HandsOut, ScanStops, Scans, ScansSome, with_strays}
 use Rattle.sv_store.proofs.EndedNumbers.{ended-or, entry-mapped}
 use Rattle.sv_store.proofs.HandedNumbers.{in-strays, stray-or}
-use Rattle.sv_store.proofs.HeldLaws.{NoneLives, fits-in, held-removed, keeps-held, none-same}
+use Rattle.sv_store.proofs.HeldLaws.{fits-in, held-removed, keeps-held, none-same}
 use Rattle.sv_store.proofs.HeldPurges.{none-ended}
 use Rattle.sv_store.proofs.RemovalSteps.{dir_seen}
 use Rattle.sv_store.proofs.ScanSteps.{handed-obsolete}

@@ -1,5 +1,5 @@
 -- The numbers that a close leaves.
-use Rattle.std.proofs.Common.{◌≡◌, ◌≢◌, ◌<◌, ◌≤◌, ◌+◌, ◌⊎◌, inl, inr, ⊎_elim, ◌↔◌, ℕ, zero, suc, Bool, true, false, cond, List, [], ◌∷◌, length, get_or, Option, Some, None, refl, sym, ap, ◌∙◌, subst, arith}
+use Rattle.std.proofs.Common.{◌≡◌, ◌<◌, ◌≤◌, ◌+◌, inl, ⊎_elim, ◌↔◌, ℕ, zero, suc, Bool, true, false, cond, List, [], ◌∷◌, length, get_or, Option, Some, None, refl, sym, ap, ◌∙◌, subst, arith}
 use Rattle.std.specs.Prelude.{IfSome, nat_lt, slice_get, sum}
 use Rattle.std.specs.List.Sorted.{IsStrictlyIncreasing}
 use Rattle.std.proofs.lemmas.Option.{slice_get_within}
@@ -23,7 +23,7 @@ use Rattle.sv_store.specs.Closing.{EndsAs}
 use Rattle.sv_store.specs.Ending.{RemovesObsolete, end_after}
 use Rattle.sv_store.specs.Removals.{DirSeen, FilesGoIfTold, LeftAs, Removes, RemovesSome, ended, with_gone}
 use Rattle.sv_store.specs.Standing.{IsStill}
-use Rattle.sv_store.proofs.EndedNumbers.{ended-or, ended-out, entry-mapped, in-is, is-in, is_in, mapped-entry, none-gone, ready-still}
+use Rattle.sv_store.proofs.EndedNumbers.{ended-or, entry-mapped, in-is, is-in, is_in, mapped-entry, none-gone, ready-still}
 use Rattle.sv_store.proofs.RemovalSteps.{dir_seen}
 use Rattle.sv_store.proofs.TriedNumbers.{part-in}
 
@@ -177,9 +177,9 @@ module _ (old new : FileRegister) (d : DirSeen) (r : RemovesObsolete old new d) 
             subst (λ (z : FileRegister). IsRegistered z.numbers n Gone) (sym r.is)
                 (o.0, ended r.gone o.1, entry-mapped (ended r.gone) old.numbers o.0 o.1 o.2, record { number_is = o.3.number_is; status_is = ap (λ (b : Bool). cond b Gone o.1.status) k }),
             (λ g.
-            let place = one_entry old.numbers n o.0 g.0 o.1 g.1 (once n) o.2 g.2 o.3.number_is g.3.number_is in
-            let same : o.1 ≡ g.1 = some (sym o.2 ∙ ap (entry old.numbers) place ∙ g.2) in
-            obsolete_gone (sym o.3.status_is ∙ ap (λ (z : RegisteredFile). z.status) same ∙ g.3.status_is)),
+                let place = one_entry old.numbers n o.0 g.0 o.1 g.1 (once n) o.2 g.2 o.3.number_is g.3.number_is in
+                let same : o.1 ≡ g.1 = some (sym o.2 ∙ ap (entry old.numbers) place ∙ g.2) in
+                obsolete_gone (sym o.3.status_is ∙ ap (λ (z : RegisteredFile). z.status) same ∙ g.3.status_is)),
           )
 
       back : IsRegistered new.numbers n Gone → (IsRegistered old.numbers n Gone → ⊥) → In n r.gone

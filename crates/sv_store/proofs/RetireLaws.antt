@@ -1,15 +1,13 @@
 -- A family is retired: its current waits, and goes.
-use Rattle.std.proofs.Common.{◌≡◌, ◌≢◌, ◌+◌, ◌*◌, inl, inr, ⊎_elim, ℕ, true, false, List, Option, Some, None, refl, sym, ap, ◌∙◌, subst}
+use Rattle.std.proofs.Common.{◌≡◌, ⊎_elim, ℕ, true, false, List, Option, Some, None, refl, sym, ap, ◌∙◌, subst}
 use Rattle.std.specs.Prelude.{slice_get}
 use mathlib.Core.Logic.{dite}
 use native.Mathlib.Decide.{ℕ_discrete}
-use Rattle.sv_model.specs.declared.records.SuperVersion.{SuperVersion}
 use Rattle.sv_model.specs.declared.records.Top.{Top}
 use Rattle.sv_model.specs.declared.sv_refs.SvRef.{SvRef}
 use Rattle.sv_model.specs.Books.{Books}
 use Rattle.sv_model.specs.Cells.{Cell}
 use Rattle.sv_model.specs.Families.{is_retired}
-use Rattle.sv_model.specs.Named.{HasCurrent}
 use Rattle.sv_model.specs.Registers.{entry}
 use Rattle.sv_model.specs.Steady.{Sound}
 use Rattle.sv_model.proofs.Entries.{some}
@@ -17,14 +15,13 @@ use Rattle.sv_laws.specs.Families.{IsReleased, IsRetired, released}
 use Rattle.sv_laws.specs.Growing.{IsPlaced}
 use Rattle.sv_laws.proofs.GrownRegisters.{placed-set}
 use Rattle.sv_laws.proofs.Handles.{not-retired}
-use Rattle.sv_laws.proofs.OpenFamilies.{current-top}
 use Rattle.sv_objects.specs.declared.bodies.Body.{Body}
 use Rattle.sv_state.specs.Gone.{IsReleasedAs}
 use Rattle.sv_state.specs.Refs.{IsKept, IsRefOf}
 use Rattle.sv_store.specs.Cells.{CellsHold}
 use Rattle.sv_store.specs.Ending.{LosesCurrent}
 use Rattle.sv_store.specs.Going.{CurrentGoes, PackGoes}
-use Rattle.sv_store.specs.Standing.{HaveCurrents, IsAloneBut, IsStill, Rests, Stands}
+use Rattle.sv_store.specs.Standing.{HaveCurrents, IsStill, Rests, Stands}
 use Rattle.sv_store.specs.Writing.{CanObey}
 use Rattle.sv_store.proofs.EndedCurrents.{lost-alone, lost-free, ref, super-on, was-live}
 use Rattle.sv_store.proofs.FrameLaws.{family-stands}

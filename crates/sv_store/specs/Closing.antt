@@ -10,7 +10,7 @@ use Rattle.sv_model.specs.Books.{Books, FileRegister}
 use Rattle.sv_model.specs.Families.{is_retired}
 use Rattle.sv_model.specs.Faults.{RoseBy}
 use Rattle.sv_model.specs.Lists.{In}
-use Rattle.sv_model.specs.Named.{list_live, memtable_live, super_live, version_live}
+use Rattle.sv_model.specs.Named.{list_live, memtable_live, super_live}
 use Rattle.sv_model.specs.Numbers.{IsRegistered}
 use Rattle.sv_model.specs.Registers.{EachEntry}
 use Rattle.sv_model.specs.Summaries.{obsolete_of}

@@ -30,7 +30,6 @@ mod summaries;
 mod switches;
 mod writes;
 
-
 pub use closes::Closed;
 pub use reads::Got;
 pub use store::Store;

@@ -1,5 +1,4 @@
-use Rattle.sv_store.proofs.EndedSnapshots.{fewer-live, newest-ended, one-snapshot, snapshots-through}
-use Rattle.sv_store.proofs.StandLaws.{follows-through}
+use Rattle.sv_store.proofs.EndedSnapshots.{fewer-live, newest-ended}
 use Rattle.sv_store.proofs.closes.end_snapshots.Goals as goal
 
 pub loop-snapshot-smaller : goal.loop-snapshot-smaller

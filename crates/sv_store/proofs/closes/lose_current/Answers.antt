@@ -1,4 +1,4 @@
-use Rattle.sv_store.proofs.CurrentCases.{ended-lets-go, forgotten-lets-go}
+use Rattle.sv_store.proofs.CurrentCases.{forgotten-lets-go}
 use Rattle.sv_store.proofs.closes.lose_current.Goals as goal
 
 pub returns-clause-lets_go : goal.returns-clause-lets_go

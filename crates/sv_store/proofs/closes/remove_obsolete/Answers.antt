@@ -1,4 +1,4 @@
-use Rattle.std.proofs.Common.{◌≡◌, List, sym, subst}
+use Rattle.std.proofs.Common.{sym, subst}
 use Rattle.sv_model.specs.declared.reports.End.{End}
 use Rattle.sv_model.specs.Summaries.{obsolete_of}
 use Rattle.sv_store.specs.Closing.{EndsAs}

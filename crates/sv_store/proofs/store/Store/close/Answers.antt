@@ -1,7 +1,6 @@
 use Rattle.std.proofs.Common.{length, ap, ◌∙◌, subst}
 use Rattle.sv_state.specs.Follows.{Follows}
 use Rattle.sv_state.specs.Seen.{StateSeen}
-use Rattle.sv_model.specs.Books.{Books}
 use Rattle.sv_store.specs.Closing.{Closes, ClosesFiles}
 use Rattle.sv_store.specs.Seen.{StoreSeen}
 use Rattle.sv_store.proofs.ClosedStore.{can-close, can-remove, closed-books, closes-books, closes-files, rested}
