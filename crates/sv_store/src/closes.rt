@@ -126,7 +126,7 @@ impl Store {
     /// rows that stand in memtables alone go with them. The registers stay, as long as they were, for a report.
     ///
     /// The end is clean where no number is left. Else it tells why one is: for want of memory, or since the directory
-    /// failed at each. Takes memory for the list of the numbers that are to go, where there are some, and nothing else.
+    /// failed at each. Takes memory for the list of the numbers that are to go, where there are some; a removal may too.
     pub fn close<D: Dir>(self, dir: &mut D) -> Closed
         ensures closed { IsClosed result.books.books }
         ensures closes { Closes self.books result.books.books }
