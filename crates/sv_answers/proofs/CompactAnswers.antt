@@ -201,7 +201,7 @@ module _ (told now : Option Files) (a b : StoreSeen) (next : Follows a.books b.b
       let at_mid = knows-kept s a.books w.mid k keeps begun.1 all in
       let has = meant-handle s a.books k all.knows all.own name h.meant in
       let none = meant-free s a.books k all.knows all.own name h.meant c refl in
-      answers-after s a.books w.mid k keeps b.books c r
+      answers-after s a.books w.mid k keeps begun.1 b.books c r
       (answers-cleaned (is_some told) w.mid x b.books k at_mid ended.0 ended.1 w.renews.goes.s w.renews.goes.x w.renews.goes.cleaned c r
       (compact-answers s w.mid x k f file begun.0 at_mid ended.1 name has w.renews.is (merge-planned a.books w.mid f file k all.knows w.planned) none))
 

@@ -10,6 +10,7 @@ use Rattle.sv_model.specs.Books.{Books, FileRegister}
 use Rattle.sv_model.specs.Files.{Files}
 use Rattle.sv_model.specs.Refusals.{first_due}
 use Rattle.sv_model.specs.Steady.{Sound}
+use Rattle.sv_model.proofs.AfterLaws.{after-through}
 use Rattle.sv_model.proofs.Basics.{none_some}
 use Rattle.sv_cells.specs.Calls.{memtables_refusal}
 use Rattle.sv_files.specs.Calls.{capture_refusal}
@@ -231,7 +232,8 @@ module _ (told : Bool) (a b : StoreSeen) (rests : Rests a.books a.cells) (next :
         newer = omega (arith, l.begins.begun.captured.number_is, at_ready.knows.file);
       } in
       let r = reply.Flush file.number file.from file.to in
-      answers-after s a.books l.mid k (keeps-through 0 a.books ready l.mid keeps_ready keeps_mid) b.books c r
+      answers-after s a.books l.mid k (keeps-through 0 a.books ready l.mid keeps_ready keeps_mid)
+      (after-through a.books ready l.mid first.after begun.1) b.books c r
       (answers-cleaned told l.mid w.mid b.books k at_mid put.0 put.1 w.goes.s w.goes.x w.goes.cleaned c r
       (flush-answers s l.mid w.mid k f file begun.0 at_mid put.1 name (has h.meant) w.is planned (free h.meant)))
 

@@ -8,6 +8,7 @@ mod HeldAnswers
 mod HoldAnswers
 mod LiveAnswers
 mod MidAnswers
+mod NewlyGone
 mod PurgeAnswers
 mod PutAnswers
 mod QuietRefusals

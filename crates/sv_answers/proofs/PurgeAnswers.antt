@@ -6,7 +6,7 @@ use Rattle.sv_model.specs.declared.refusals.Refusal.{Refusal}
 use Rattle.sv_model.specs.declared.refusals.Refusal.TheVariants as refusal
 use Rattle.sv_model.specs.Books.{Books, FileRegister}
 use Rattle.sv_model.specs.Faults.{RoseBy}
-use Rattle.sv_model.specs.Numbers.{IsRegistered}
+use Rattle.sv_model.specs.Numbers.{IsRegistered, registered}
 use Rattle.sv_files.specs.Calls.{disabled}
 use Rattle.sv_state.specs.Follows.{Follows}
 use Rattle.sv_store.specs.Purging.{PurgeStops, Purges, PurgesSome}
@@ -27,6 +27,7 @@ use Rattle.sv_replies.proofs.HoldLemmas.{purge-fits}
 use Rattle.sv_replies.proofs.MetLaws.{fits_due, fits_met}
 use Rattle.sv_answers.specs.Answered.{CountsReply, alone}
 use Rattle.sv_answers.proofs.HoldAnswers.{if-due, if-free}
+use Rattle.sv_answers.proofs.NewlyGone.{purged-new}
 
 abbrev pub purge_replied : Result (List ℕ) Refusal → Reply
 purge_replied (Ok numbers) = reply.Purge numbers
@@ -87,22 +88,24 @@ module _ (told : Bool) (a b : StoreSeen) (next : Follows a.books b.books) (k : K
       let on = next.after.numbers was.0 was.1 was.2 in
       fits_met s b.books k command.Purge (refusal.DirFault number) (free h.free) (was.0, on.0, on.1, on.2.number ∙ was.3.number_is)
 
-  pub purge-replies : (r : Result (List ℕ) Refusal) → IfOk r (λ numbers. Purges old new d numbers) → IfErr r (PurgeStops old new d)
+  pub purge-replies : ((n : ℕ) → registered n old.numbers ≤ 1) → (r : Result (List ℕ) Refusal)
+      → IfOk r (λ numbers. Purges old new d numbers) → IfErr r (PurgeStops old new d)
       → Answers s a.books b.books k command.Purge (purge_replied r)
-  purge-replies (Ok numbers) purged stops =
+  purge-replies once (Ok numbers) purged stops =
       purge-answers s a.books b.books k all next.after (keeps (ap (λ (z : FileRegister). z.holds) purged.removes.is)) numbers
       (purge-fits s b.books k numbers (free purged.free) purged.ready.rising
       (λ n there. subst (λ (z : FileRegister). IsRegistered z.numbers n Gone) (sym purged.removes.is)
       (ended-gone old numbers n _ ((purged.ready.exact n).0 there).obsolete there)))
-  purge-replies (Err (refusal.Disabled count)) purged stops =
+      (purged-new old new d once numbers purged)
+  purge-replies once (Err (refusal.Disabled count)) purged stops =
       refused (refusal.Disabled count) (ap (λ (z : FileRegister). z.holds) stops.1.same) (hold-stands count stops.0)
-  purge-replies (Err (refusal.DirFault number)) purged stops =
+  purge-replies once (Err (refusal.DirFault number)) purged stops =
       refused (refusal.DirFault number) (ap (λ (z : FileRegister). z.holds) stops.removes.removes.is) (left-known number stops)
-  purge-replies (Err refusal.OutOfMemory) purged stops = ⊎_elim
+  purge-replies once (Err refusal.OutOfMemory) purged stops = ⊎_elim
       (λ h. refused refusal.OutOfMemory (ap (λ (z : FileRegister). z.holds) h.same) tt)
       (λ h. refused refusal.OutOfMemory (ap (λ (z : FileRegister). z.holds) h.removes.removes.is) tt)
       stops
-  purge-replies (Err e) purged stops = absurd stops
+  purge-replies once (Err e) purged stops = absurd stops
 
 -- ---- the directory's failures
 

@@ -97,7 +97,7 @@ module _ (told : Option Files) (b : Books) (law : Lawful b) (held : IsHeld b tol
       (subst (λ n. FindsUnread b f key got.value n x) gets.cut_is unread) in
       get-answers s b b k name key f got.value got.cut got.sv all (after-itself b) (keeps-same 0 b) has (get-free k name key f in_key has)
       (subst (λ n. GetLaw.Gets s b k key got.value n got.sv f) (sym gets.cut_is) is)
-      (x, current.has, current-of b law f got.sv x current)
+      (x, current.has, current-of b law f got.sv x current) (λ one. gets.cut_is)
 
   stop-fits : (e : Refusal) → GetStops b told name key (IsEnd b) e
       → ReplyFits (alone (is_some told)) b k (command.Get name key) (reply.Refused e)

@@ -7,6 +7,7 @@ use Rattle.sv_model.specs.declared.refusals.Refusal.{Refusal}
 use Rattle.sv_model.specs.declared.refusals.Refusal.TheVariants as refusal
 use Rattle.sv_model.specs.Books.{FileRegister}
 use Rattle.sv_model.specs.Faults.{RoseBy}
+use Rattle.sv_model.specs.Numbers.{registered}
 use Rattle.sv_files.specs.Calls.{disabled}
 use Rattle.sv_state.specs.Follows.{Follows}
 use Rattle.sv_store.specs.Removals.{DirSeen}
@@ -25,6 +26,7 @@ use Rattle.sv_replies.proofs.HoldLemmas.{scan-fits}
 use Rattle.sv_replies.proofs.MetLaws.{fits_due, fits_met}
 use Rattle.sv_answers.specs.Answered.{CountsReply, alone}
 use Rattle.sv_answers.proofs.HoldAnswers.{if-due, if-free}
+use Rattle.sv_answers.proofs.NewlyGone.{scanned-new}
 
 module _ (told : Bool) (a b : StoreSeen) (next : Follows a.books b.books) (k : Known) (all : KnowsAll (alone told) a.books k)
     (rest : b ≡ record a { books = record a.books { files = b.books.files } }) (d : DirSeen) where
@@ -42,10 +44,12 @@ module _ (told : Bool) (a b : StoreSeen) (next : Follows a.books b.books) (k : K
       keeps-books 0 a.books b.books (ap (λ (z : StoreSeen). z.books.families) rest) same (ap (λ (z : StoreSeen). z.books.journal) rest)
       (ap (λ (z : StoreSeen). z.books.snapshots) rest)
 
-  pub scan-shown : (numbers : List ℕ) → Scans a.books.files b.books.files d numbers → Answers (alone told) a.books b.books k command.Scan (reply.Scan numbers)
-  scan-shown numbers h =
+  pub scan-shown : ((n : ℕ) → registered n a.books.files.numbers ≤ 1) → (numbers : List ℕ) → Scans a.books.files b.books.files d numbers
+      → Answers (alone told) a.books b.books k command.Scan (reply.Scan numbers)
+  scan-shown once numbers h =
       scan-answers (alone told) a.books b.books k all next.after (keeps (ap (λ (r : FileRegister). r.holds) h.removes.is)) numbers
       (scan-fits (alone told) b.books k numbers (none-due h.begun.free) h.begun.hands.are.rising (scans-gone a.books.files b.books.files d numbers h))
+      (scanned-new a.books.files b.books.files d once numbers h)
 
   -- ---- refusals
   refused : (e : Refusal) → b.books.files.holds ≡ a.books.files.holds → ReplyFits (alone told) b.books k command.Scan (reply.Refused e)

@@ -37,6 +37,7 @@ use Rattle.sv_replies.proofs.AnswersOfFamilies.{set-answers}
 use Rattle.sv_replies.proofs.DueLemmas.{first-here, first-next, known-handle}
 use Rattle.sv_replies.proofs.KnowsLaws.{knows-later}
 use Rattle.sv_replies.proofs.MetLaws.{fits_due, fits_met, through}
+use Rattle.sv_replies.proofs.FindsLemmas.{adds-before}
 use Rattle.sv_replies.proofs.ReplyFitsLaws.{fits-later}
 use Rattle.sv_answers.specs.Answered.{alone}
 use Rattle.sv_answers.proofs.FamilyAnswers.{refused-same}
@@ -59,6 +60,8 @@ module _ (told : Bool) (a m b : Books) (k : Known) (all : KnowsAll (alone told) 
         fits = fits-later (alone told) m b k (knows-later a m k before all.knows) sound.lawful later.0.lawful later.1 c r h.fits;
         still = all-kept (alone told) m b (learn k c r) (learn k c r) keeps (same-known (learn k c r)) (knows-later m b (learn k c r) later.1 h.still.knows) h.still;
         asked = ap (map change_of) keeps.own.writes ∙ h.asked;
+        own = adds-before 0 a m b keeps.journal h.own;
+        finds = h.finds;
       }
 
 -- ---- set

@@ -164,7 +164,7 @@ module _ (told : Bool) (a b : StoreSeen) (sound : Sound a.books) (next : Follows
       let keeps = switched-keeps 0 f a.books m w in
       let mid = switch-follows f a.books m sound w in
       let later = sound-kept m b.books mid.sound (written f (write_of 0 f h.mem row) h.written) in
-      answers-after s a.books m k keeps b.books c (number n)
+      answers-after s a.books m k keeps mid.after b.books c (number n)
       (accepted m b.books row n f (knows-kept s a.books m k keeps mid.after all) later.1 key_is op_is has none h)
 
   pub write-answers : (r : Result ℕ Refusal) (row : Row) → row.key ≡ key → row.op ≡ o → Writes a b name row r

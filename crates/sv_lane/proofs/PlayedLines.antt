@@ -9,8 +9,8 @@ use Rattle.sv_script.specs.Answered.{Answered, answered, dir_faults, fault_by}
 use Rattle.sv_script.specs.declared.commands.Command.{Command}
 use Rattle.sv_script.specs.declared.replies.Reply.{Reply}
 use Rattle.sv_script.specs.declared.scripts.Line.{Line}
-use Rattle.sv_replies.specs.Told.{LaneTold}
-use Rattle.sv_replies.proofs.ToldLaws.{lane_told-push}
+use Rattle.sv_replies.specs.Told.{AloneTold}
+use Rattle.sv_replies.proofs.AloneTold.{alone-push}
 use Rattle.sv_replies.specs.Known.{known_after}
 use Rattle.sv_state.specs.Follows.{Follows}
 use Rattle.sv_model.proofs.AfterLaws.{after-itself, after-through}
@@ -49,9 +49,9 @@ played-push start old new lines replies line r e played step =
     record {
       numbers = map-append (λ (p : ℕ × Reply). p.0) replies ((line.line, r) ∷ []) ∙ ap (λ z. z ++ line.line ∷ []) played.numbers
           ∙ sym (map-append (λ (l : Line). l.line) lines (line ∷ []));
-      lane = subst (LaneTold (alone (is_some start.files)) new.books) (sym pushed)
-          (lane_told-push (alone (is_some start.files)) old.books new.books all x played.follows.sound.lawful step.follows.sound.lawful step.follows.after played.lane
-          (reply (known_after all) played.lane.known));
+      lane = subst (AloneTold (alone (is_some start.files)) new.books) (sym pushed)
+          (alone-push (alone (is_some start.files)) old.books new.books all x refl played.follows.sound.lawful step.follows.sound.lawful step.follows.after played.lane
+          (reply (known_after all) played.lane.lane.known));
       told = step.told ∙ played.told;
       held = step.held played.held;
       later = omega (arith, played.later, step.faults.later);
@@ -69,7 +69,7 @@ played-more start old new lines replies i line r lt e is played step =
     (played-push start old new (take i lines) replies line r (omega (arith, length-take i lines, e)) played step)
 
 -- before the first line
-pub played-none : (s : Moment) (lines : List Line) → LaneTold (alone (is_some s.files)) s.books [] → IsHeld s.books s.files → Sound s.books
+pub played-none : (s : Moment) (lines : List Line) → AloneTold (alone (is_some s.files)) s.books [] → IsHeld s.books s.files → Sound s.books
     → Played s s (take 0 lines) []
 played-none s lines lane held sound = record {
   numbers = refl;

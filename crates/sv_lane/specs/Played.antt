@@ -6,7 +6,7 @@ use Rattle.sv_model.specs.Files.{Files}
 use Rattle.sv_script.specs.Answered.{answered, dir_faults}
 use Rattle.sv_script.specs.declared.replies.Reply.{Reply}
 use Rattle.sv_script.specs.declared.scripts.Line.{Line}
-use Rattle.sv_replies.specs.Told.{LaneTold}
+use Rattle.sv_replies.specs.Told.{AloneTold}
 use Rattle.sv_state.specs.Follows.{Follows}
 use Rattle.sv_answers.specs.Answered.{IsHeld, alone}
 
@@ -16,11 +16,12 @@ pub record Moment : Type 0 where
   pub files : Option Files
   pub faults : ℕ
 
--- Each line has one reply, in order. The lane was told so, and nothing else: its replies fit the books, and the journal
--- has just the writes that were accepted. The directory failed at least as often as the lane was told.
+-- Each line has one reply, in order. The lane was told so, and nothing else: its replies fit the books, the journal has
+-- just the writes that were accepted, each get looked at just those before it, and nothing was purged or ended twice. The
+-- directory failed at least as often as the lane was told.
 pub record Played (start now : Moment) (lines : List Line) (replies : List (ℕ × Reply)) : Type 0 where
   pub numbers : map (λ (r : ℕ × Reply). r.0) replies ≡ map (λ line. line.line) lines
-  pub lane : LaneTold (alone (is_some start.files)) now.books (answered lines replies)
+  pub lane : AloneTold (alone (is_some start.files)) now.books (answered lines replies)
   pub told : is_some now.files ≡ is_some start.files
   pub held : IsHeld now.books now.files
   pub later : start.faults ≤ now.faults

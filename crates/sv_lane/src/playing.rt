@@ -1,6 +1,6 @@
 // The lines of the one lane, each answered once and in order.
 ghost use Rattle.std.specs.Prelude.{◌≡◌, ◌≤◌, [], All, is_some, length, vec_capacity};
-ghost use Rattle.sv_replies.specs.Told.{LaneTold};
+ghost use Rattle.sv_replies.specs.Told.{AloneTold};
 ghost use Rattle.sv_answers.specs.Answered.{IsHeld, alone};
 ghost use Rattle.sv_answers.specs.Run.{IsRun};
 ghost use Rattle.sv_lane.specs.Played.{Played};
@@ -12,7 +12,7 @@ use sv_model::Items;
 use sv_script::{Line, Reply};
 use sv_store::Store;
 
-/// Answers the lines of a lane that was told nothing yet. There is room for the replies.
+/// Answers the lines of the one lane, which was told nothing yet; no write is of another. There is room for the replies.
 pub fn play<D: Dir>(
     alloc: Global,
     store: &mut Store,
@@ -21,7 +21,7 @@ pub fn play<D: Dir>(
     mut replies: Vec<(u64, Reply)>,
 ) -> Items<(u64, Reply)>
     requires run { All (λ line. IsRun line.command) lines.now }
-    requires told { LaneTold (alone (is_some (D.files dir.old))) store.old.books [] }
+    requires told { AloneTold (alone (is_some (D.files dir.old))) store.old.books [] }
     requires held { IsHeld store.old.books (D.files dir.old) }
     requires no_replies { replies.items ≡ [] }
     requires room { length lines.now ≤ vec_capacity replies }

@@ -31,10 +31,12 @@ use Rattle.sv_replies.specs.Moments.{IsIn, IsOf}
 use Rattle.sv_replies.proofs.AcceptedLemmas.{asks-none}
 use Rattle.sv_replies.proofs.AloneLemmas.{alone-kept}
 use Rattle.sv_replies.proofs.CompactLemmas.{compact-fits, compact-knows}
+use Rattle.sv_replies.proofs.FindsLemmas.{adds-none, adds-one, finds-read, finds-refused}
 use Rattle.sv_replies.proofs.FlushLemmas.{flush-fits, flush-knows}
 use Rattle.sv_replies.proofs.GetLemmas.{get-fits, get-knows, shows-read}
 use Rattle.sv_replies.proofs.KnowsLaws.{knows-later}
 use Rattle.sv_replies.proofs.LearnLaws.{knows-counts, knows-touch, of_handle}
+use Rattle.sv_replies.proofs.MetLaws.{through}
 use Rattle.sv_replies.proofs.OwnLemmas.{KeepsOwn, keeps-all, lane-writes, own-kept, own-write}
 use Rattle.sv_replies.proofs.WriteLemmas.{delete-fits, delete-knows, put-fits, put-knows}
 
@@ -46,9 +48,10 @@ pub record SameOwn (k l : Known) : Type 0 where
   pub ended : l.ended ≡ k.ended
   pub snapshots : (n : ℕ) → k.snapshots n ≡ true → l.snapshots n ≡ true
 
--- the books keep the lane's own, and all snapshots and holds
+-- the books keep the lane's own, and all writes, snapshots and holds
 pub record KeepsAll (lane : ℕ) (a b : Books) : Type 0 where
   pub own : KeepsOwn lane a b
+  pub journal : b.journal ≡ a.journal
   pub snapshots : b.snapshots ≡ a.snapshots
   pub holds : b.files.holds ≡ a.files.holds
 
@@ -56,7 +59,7 @@ pub keeps-books : (lane : ℕ) (a b : Books) → b.families ≡ a.families → b
     → b.journal ≡ a.journal
     → b.snapshots ≡ a.snapshots → KeepsAll lane a b
 keeps-books lane a b families holds journal snapshots =
-    record { own = keeps-all lane a b families holds journal; snapshots = snapshots; holds = holds }
+    record { own = keeps-all lane a b families holds journal; journal = journal; snapshots = snapshots; holds = holds }
 
 pub keeps-same : (lane : ℕ) (a : Books) → KeepsAll lane a a
 keeps-same lane a = keeps-books lane a a refl refl refl refl
@@ -105,6 +108,8 @@ refused-answers s a b k c e h after keeps fits = record {
   fits = fits;
   still = all-kept s a b k (learn k c (reply.Refused e)) keeps (refused-same k c e) (refused-knows b k c e (knows-later a b k after h.knows)) h;
   asked = none-asked s a b k c (reply.Refused e) keeps.own.writes (asks-none k c e);
+  own = adds-none s.lane a b keeps.journal;
+  finds = finds-refused s a k c e;
 }
 
 -- ---- writes
@@ -134,6 +139,8 @@ module _ (s : Setting) (a b : Books) (k : Known) (f : ℕ) (w : Write) (h : Know
     fits = put-fits a b f w is s k name key value n h.knows has none at number;
     still = knows-written (k.handles name) n has at.lane_is (put-knows a b f w is k name key value n after h.knows has number);
     asked = written-asked key (op.Put value) name at has;
+    own = adds-one s.lane f a b w is at.lane_is;
+    finds = tt;
   }
 
   pub delete-answers : (name key : List ℕ) (n : ℕ) → k.handles name ≡ Some f → due k (command.Delete name key) ≡ None
@@ -143,6 +150,8 @@ module _ (s : Setting) (a b : Books) (k : Known) (f : ℕ) (w : Write) (h : Know
     fits = delete-fits a b f w is s k name key n h.knows has none at number;
     still = knows-written (k.handles name) n has at.lane_is (delete-knows a b f w is k name key n after h.knows has number);
     asked = written-asked key op.Delete name at has;
+    own = adds-one s.lane f a b w is at.lane_is;
+    finds = tt;
   }
 
 -- ---- reads, which may leave other books where a reference goes
@@ -173,14 +182,17 @@ get-same k name key f r has =
 pub get-answers : (s : Setting) (a b : Books) (k : Known) (name key : List ℕ) (f : ℕ) (found : Option (List ℕ)) (cut sv : ℕ)
     → KnowsAll s a k → After a b → KeepsAll s.lane a b
     → k.handles name ≡ Some f → due k (command.Get name key) ≡ None → Gets s b k key found cut sv f
-    → IsIn (IsOf f) b.supers sv
+    → IsIn (IsOf f) b.supers sv → (s.lanes ≡ 1 → cut ≡ length (of_family f a.journal))
     → Answers s a b k (command.Get name key) (read_reply found cut sv)
-get-answers s a b k name key f found cut sv h after keeps has none gets of = record {
+get-answers s a b k name key f found cut sv h after keeps has none gets of end = record {
   fits = get-fits s b k name key f found cut sv has none gets;
   still =
       all-kept s a b k (learn k (command.Get name key) (read_reply found cut sv)) keeps (get-same k name key f (read_reply found cut sv) has)
       (get-knows b k name key f (read_reply found cut sv) (knows-later a b k after h.knows) has (shows-read b f found cut sv (record { within = gets.within; of = of }))) h;
   asked = none-asked s a b k (command.Get name key) (read_reply found cut sv) keeps.own.writes (asks found);
+  own = adds-none s.lane a b keeps.journal;
+  finds = finds-read s a k name key found cut sv
+      (λ one. through (k.handles name) f (λ g. cut ≡ length (of_family g a.journal)) has (end one));
 }
   where
     asks : (o : Option (List ℕ)) → change_asked k (command.Get name key) (read_reply o cut sv) ≡ []
@@ -204,6 +216,8 @@ module _ (s : Setting) (a b : Books) (k : Known) (f : ℕ) (file : FileMeta) (so
         (of_handle (λ z. SameOwn k (file_made file.number (learns (flushed_to file.to) z k))) (k.handles name) f has (learnt-same k (flushed_to file.to) f file.number))
         (flush-knows a b f file sound is k name after h.knows has) h;
     asked = none-asked s a b k (command.Flush name) (reply.Flush file.number file.from file.to) (ap (λ (x : Books). by_lane s.lane x.journal) is.is) refl;
+    own = adds-none s.lane a b (ap (λ (x : Books). x.journal) is.is);
+    finds = tt;
   }
 
   pub compact-answers : IsCompacted a b f file → k.file < file.number → due k (command.Compact name) ≡ None
@@ -215,4 +229,6 @@ module _ (s : Setting) (a b : Books) (k : Known) (f : ℕ) (file : FileMeta) (so
         (of_handle (λ z. SameOwn k (file_made file.number (learns (reached_to file.to) z k))) (k.handles name) f has (learnt-same k (reached_to file.to) f file.number))
         (compact-knows a b f file sound is k name after h.knows has) h;
     asked = none-asked s a b k (command.Compact name) (reply.Compact file.number file.from file.to) (ap (λ (x : Books). by_lane s.lane x.journal) is.is) refl;
+    own = adds-none s.lane a b (ap (λ (x : Books). x.journal) is.is);
+    finds = tt;
   }

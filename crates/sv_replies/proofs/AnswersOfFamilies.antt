@@ -1,5 +1,5 @@
 -- Commands on families, holds, lists of files and snapshots that are answered, from the change of the books that they make.
-use Rattle.std.proofs.Common.{◌≡◌, ◌<◌, ◌+◌, ℕ, true, List, length, Some, None, refl, sym, ap, subst}
+use Rattle.std.proofs.Common.{◌≡◌, ◌<◌, ◌+◌, ℕ, true, false, List, length, Some, None, refl, sym, ◌∙◌, ap, subst}
 use Rattle.std.specs.Prelude.{slice_get, slice_set}
 use Rattle.sv_model.specs.declared.records.Family.{Family}
 use Rattle.sv_model.specs.declared.records.Snapshot.{Snapshot}
@@ -10,12 +10,13 @@ use Rattle.sv_model.specs.Books.{Books}
 use Rattle.sv_model.specs.Families.{IsOwn}
 use Rattle.sv_model.specs.Journal.{by_lane}
 use Rattle.sv_model.specs.Steady.{Sound}
+use Rattle.sv_model.proofs.Entries.{some}
 use Rattle.sv_laws.specs.Families.{IsDropped, IsOpened, released}
 use Rattle.sv_laws.specs.NewCurrents.{IsFamilyMade, IsOptionSet}
 use Rattle.sv_laws.specs.Snapping.{IsSnapped, IsUnsnapped}
 use Rattle.sv_script.specs.declared.commands.Command.TheVariants as command
 use Rattle.sv_script.specs.declared.replies.Reply.TheVariants as reply
-use Rattle.sv_replies.specs.Answers.{Answers, KnowsAll}
+use Rattle.sv_replies.specs.Answers.{Answers, KnowsAll, NoneGone}
 use Rattle.sv_replies.specs.Due.{due}
 use Rattle.sv_replies.specs.Known.{Known, as_dropped, has_handle, learn, learns, met, with_at, with_handle}
 use Rattle.sv_replies.specs.Knows.{AllAreOwn, OwnAre}
@@ -24,6 +25,7 @@ use Rattle.sv_replies.specs.SetLaw.{value_of}
 use Rattle.sv_replies.specs.Settings.{Setting}
 use Rattle.sv_replies.proofs.AloneLemmas.{alone-hold, alone-kept, alone-snap, alone-unsnap}
 use Rattle.sv_replies.proofs.FamilyLemmas.{create-fits, create-knows, drop-fits, drop-knows, open-fits, open-knows, release-fits, release-knows, set-fits, set-knows}
+use Rattle.sv_replies.proofs.FindsLemmas.{adds-none}
 use Rattle.sv_replies.proofs.HoldLemmas.{hold-fits, unhold-fits}
 use Rattle.sv_replies.proofs.KnowsLaws.{knows-later}
 use Rattle.sv_replies.proofs.LearnLaws.{knows-counts, of_handle}
@@ -48,6 +50,8 @@ module _ (s : Setting) (a b : Books) (k : Known) (h : KnowsAll s a k) (after : A
       alone = λ one. alone-kept a b k (learn k (command.Create name) (reply.Create id)) (ap (λ (x : Books). x.snapshots) is.is) (ap (λ (x : Books). x.files.holds) is.is) refl (λ n e. e) refl (h.alone one);
     };
     asked = none-asked s a b k (command.Create name) (reply.Create id) (ap (λ (x : Books). by_lane s.lane x.journal) is.is) refl;
+    own = adds-none s.lane a b (ap (λ (x : Books). x.journal) is.is);
+    finds = tt;
   }
 
   pub open-answers : (f : ℕ) (is : IsOpened a b f s.lane) → is.it.name ≡ name → s.lane < length is.it.handles
@@ -61,6 +65,8 @@ module _ (s : Setting) (a b : Books) (k : Known) (h : KnowsAll s a k) (after : A
       alone = λ one. alone-kept a b k (has_handle name f k) (ap (λ (x : Books). x.snapshots) is.is) (ap (λ (x : Books). x.files.holds) is.is) refl (λ n e. e) refl (h.alone one);
     };
     asked = none-asked s a b k (command.Open name) (reply.Open f) (ap (λ (x : Books). by_lane s.lane x.journal) is.is) refl;
+    own = adds-none s.lane a b (ap (λ (x : Books). x.journal) is.is);
+    finds = tt;
   }
 
   -- whether the family is retired by it or not
@@ -77,6 +83,8 @@ module _ (s : Setting) (a b : Books) (k : Known) (h : KnowsAll s a k) (after : A
       alone = λ one. alone-kept a b k (record k { handles = with_handle k.handles name None }) snapshots holds refl (λ n e. e) refl (h.alone one);
     };
     asked = none-asked s a b k (command.Release name) reply.Release (ap (by_lane s.lane) journal) refl;
+    own = adds-none s.lane a b journal;
+    finds = tt;
   }
 
   pub drop-answers : (f : ℕ) → IsDropped a b f s.lane → k.handles name ≡ Some f → due k (command.Drop name) ≡ None
@@ -90,6 +98,8 @@ module _ (s : Setting) (a b : Books) (k : Known) (h : KnowsAll s a k) (after : A
           (alone-kept a b k (learns as_dropped (Some f) k) (ap (λ (x : Books). x.snapshots) is.is) (ap (λ (x : Books). x.files.holds) is.is) refl (λ n e. e) refl (h.alone one));
     };
     asked = none-asked s a b k (command.Drop name) reply.Drop (ap (λ (x : Books). by_lane s.lane x.journal) is.is) refl;
+    own = adds-none s.lane a b (ap (λ (x : Books). x.journal) is.is);
+    finds = tt;
   }
 
   pub set-answers : (f : ℕ) (o : Options) (option : OptionName) (value sv : ℕ) → Sound a → IsOptionSet a b f o
@@ -99,10 +109,12 @@ module _ (s : Setting) (a b : Books) (k : Known) (h : KnowsAll s a k) (after : A
   set-answers f o option value sv sound is has none at number = record {
     fits = set-fits a b f o sound is s k name option value sv h.knows has none at number;
     still = all-kept s a b k (learns (met sv) (k.handles name) k)
-        (record { own = keeps-set s.lane a b f o is; snapshots = ap (λ (x : Books). x.snapshots) is.is; holds = ap (λ (x : Books). x.files.holds) is.is })
+        (record { own = keeps-set s.lane a b f o is; journal = ap (λ (x : Books). x.journal) is.is; snapshots = ap (λ (x : Books). x.snapshots) is.is; holds = ap (λ (x : Books). x.files.holds) is.is })
         (of_handle (λ z. SameOwn k (learns (met sv) z k)) (k.handles name) f has (record { handles = refl; holds = refl; accepted = refl; ended = refl; snapshots = λ n e. e }))
         (set-knows a b f o sound is k name option value sv after h.knows has number) h;
     asked = none-asked s a b k (command.Set name option value) (reply.Set sv) (ap (λ (x : Books). by_lane s.lane x.journal) is.is) refl;
+    own = adds-none s.lane a b (ap (λ (x : Books). x.journal) is.is);
+    finds = tt;
   }
 
 -- ---- holds
@@ -121,6 +133,8 @@ module _ (s : Setting) (a b : Books) (k : Known) (h : KnowsAll s a k) (after : A
     fits = hold-fits s a b k before count h.own at more none;
     still = held;
     asked = none-asked s a b k command.Hold (reply.Hold count) (ap (λ (x : Books). by_lane s.lane x.journal) is) refl;
+    own = adds-none s.lane a b (ap (λ (x : Books). x.journal) is);
+    finds = tt;
   }
 
   pub unhold-answers : count + 1 ≡ before → due k command.Unhold ≡ None
@@ -129,6 +143,8 @@ module _ (s : Setting) (a b : Books) (k : Known) (h : KnowsAll s a k) (after : A
     fits = unhold-fits s a b k before count h.own at less none;
     still = held;
     asked = none-asked s a b k command.Unhold (reply.Unhold count) (ap (λ (x : Books). by_lane s.lane x.journal) is) refl;
+    own = adds-none s.lane a b (ap (λ (x : Books). x.journal) is);
+    finds = tt;
   }
 
 -- ---- lists of files: what the lane knows is the same
@@ -140,22 +156,28 @@ module _ (s : Setting) (a b : Books) (k : Known) (h : KnowsAll s a k) (after : A
     fits = fits;
     still = all-kept s a b k k keeps (same-known k) (knows-later a b k after h.knows) h;
     asked = none-asked s a b k command.Live (reply.Live numbers) keeps.own.writes refl;
+    own = adds-none s.lane a b keeps.journal;
+    finds = tt;
   }
 
-  pub purge-answers : ReplyFits s b k command.Purge (reply.Purge numbers)
+  pub purge-answers : ReplyFits s b k command.Purge (reply.Purge numbers) → NoneGone a numbers
       → Answers s a b k command.Purge (reply.Purge numbers)
-  purge-answers fits = record {
+  purge-answers fits new = record {
     fits = fits;
     still = all-kept s a b k k keeps (same-known k) (knows-later a b k after h.knows) h;
     asked = none-asked s a b k command.Purge (reply.Purge numbers) keeps.own.writes refl;
+    own = adds-none s.lane a b keeps.journal;
+    finds = new;
   }
 
-  pub scan-answers : ReplyFits s b k command.Scan (reply.Scan numbers)
+  pub scan-answers : ReplyFits s b k command.Scan (reply.Scan numbers) → NoneGone a numbers
       → Answers s a b k command.Scan (reply.Scan numbers)
-  scan-answers fits = record {
+  scan-answers fits new = record {
     fits = fits;
     still = all-kept s a b k k keeps (same-known k) (knows-later a b k after h.knows) h;
     asked = none-asked s a b k command.Scan (reply.Scan numbers) keeps.own.writes refl;
+    own = adds-none s.lane a b keeps.journal;
+    finds = new;
   }
 
 -- ---- snapshots
@@ -171,6 +193,8 @@ snap-answers s a b k n at h after is number end = record {
     alone = λ one. alone-snap a b k n is number (h.alone one);
   };
   asked = none-asked s a b k command.Snap (reply.Snap n at) (ap (λ (x : Books). by_lane s.lane x.journal) is.is) refl;
+  own = adds-none s.lane a b (ap (λ (x : Books). x.journal) is.is);
+  finds = tt;
 }
 
 pub unsnap-answers : (s : Setting) (a b : Books) (k : Known) (n : ℕ) (x : Snapshot) → KnowsAll s a k → After a b
@@ -185,4 +209,10 @@ unsnap-answers s a b k n x h after is = record {
     alone = λ one. alone-unsnap a b k n x is (h.alone one);
   };
   asked = none-asked s a b k (command.Unsnap n) reply.Unsnap (ap (λ (z : Books). by_lane s.lane z.journal) is.is) refl;
+  own = adds-none s.lane a b (ap (λ (z : Books). z.journal) is.is);
+  finds = λ over. (
+      let same : over.0 ≡ x = some (sym over.1 ∙ is.at) in
+      let q : false ≡ true = sym over.2 ∙ (ap (λ (z : Snapshot). z.live) same ∙ is.live) in
+      absurd (cc)
+  );
 }

@@ -20,6 +20,7 @@ use Rattle.sv_replies.proofs.AloneLemmas.{still_true}
 use Rattle.sv_replies.proofs.AnswersLaws.{KeepsAll, SameOwn, all-kept, none-asked, read-same, same-on, touch-same}
 use Rattle.sv_replies.proofs.FamilyLemmas.{pin-fits, pin-knows, unpin-fits, unpin-knows}
 use Rattle.sv_replies.proofs.GetLemmas.{shows-read}
+use Rattle.sv_replies.proofs.FindsLemmas.{adds-none}
 use Rattle.sv_replies.proofs.GetsLemmas.{getp-fits, getp-knows}
 use Rattle.sv_replies.proofs.HoldLemmas.{rest-fits, rest-knows}
 use Rattle.sv_replies.proofs.KnowsLaws.{knows-later}
@@ -50,6 +51,8 @@ module _ (s : Setting) (a b : Books) (k : Known) (h : KnowsAll s a k) (after : A
         (of_handle (λ z. SameOwn k (read_at n z (read_reply found cut sv) k)) (k.handles name) f has (read_at-same k n f (read_reply found cut sv)))
         (gets-knows b k n name key f (read_reply found cut sv) (knows-later a b k after h.knows) has (x, at) (shows-serial b f found cut sv of)) h;
     asked = none-asked s a b k (command.Gets n name key) (read_reply found cut sv) keeps.own.writes (asks found);
+    own = adds-none s.lane a b keeps.journal;
+    finds = tt;
   }
     where
       asks : (o : Option (List ℕ)) → change_asked k (command.Gets n name key) (read_reply o cut sv) ≡ []
@@ -65,6 +68,8 @@ module _ (s : Setting) (a b : Books) (k : Known) (h : KnowsAll s a k) (after : A
         (subst (λ (z : Option Pinned). SameOwn k (read (family_of_pin z) (read_reply found cut sv) k)) (sym has) (read-same k p.family (read_reply found cut sv)))
         (getp-knows b k pin p key (read_reply found cut sv) (knows-later a b k after h.knows) has (shows-read b p.family found cut sv (record { within = gets.within; of = of }))) h;
     asked = none-asked s a b k (command.Getp pin key) (read_reply found cut sv) keeps.own.writes (asks found);
+    own = adds-none s.lane a b keeps.journal;
+    finds = tt;
   }
     where
       asks : (o : Option (List ℕ)) → change_asked k (command.Getp pin key) (read_reply o cut sv) ≡ []
@@ -85,6 +90,8 @@ module _ (s : Setting) (a b : Books) (k : Known) (h : KnowsAll s a k) (after : A
         (touch-same (pinned (k.handles name) pin sv (learns (met sv) (k.handles name) k)) (k.handles name)))
         (pin-knows b k name f pin sv (knows-later a b k after h.knows) has of) h;
     asked = none-asked s a b k (command.Pin name) (reply.Pin pin sv) keeps.own.writes refl;
+    own = adds-none s.lane a b keeps.journal;
+    finds = tt;
   }
 
   pub unpin-answers : (pin : ℕ) → due k (command.Unpin pin) ≡ None → Answers s a b k (command.Unpin pin) reply.Unpin
@@ -94,6 +101,8 @@ module _ (s : Setting) (a b : Books) (k : Known) (h : KnowsAll s a k) (after : A
         (record { handles = refl; holds = refl; accepted = refl; ended = refl; snapshots = λ m e. e })
         (unpin-knows b k pin (knows-later a b k after h.knows)) h;
     asked = none-asked s a b k (command.Unpin pin) reply.Unpin keeps.own.writes refl;
+    own = adds-none s.lane a b keeps.journal;
+    finds = tt;
   }
 
   pub rest-answers : (count : ℕ) → count ≤ length k.touched → Answers s a b k command.Rest (reply.Rest count)
@@ -103,4 +112,6 @@ module _ (s : Setting) (a b : Books) (k : Known) (h : KnowsAll s a k) (after : A
         (record { handles = refl; holds = refl; accepted = refl; ended = refl; snapshots = λ m e. e })
         (rest-knows b k (reply.Rest count) (knows-later a b k after h.knows)) h;
     asked = none-asked s a b k command.Rest (reply.Rest count) keeps.own.writes refl;
+    own = adds-none s.lane a b keeps.journal;
+    finds = tt;
   }

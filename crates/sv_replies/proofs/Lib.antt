@@ -1,6 +1,7 @@
 pub mod AcceptedLemmas
 pub mod AfterLemmas
 pub mod AloneLemmas
+pub mod AloneTold
 pub mod AnswersLaws
 pub mod AnswersOfFamilies
 pub mod AnswersOfReads
@@ -8,6 +9,7 @@ pub mod CompactLemmas
 pub mod DueLemmas
 pub mod EndedLemmas
 pub mod FamilyLemmas
+pub mod FindsLemmas
 pub mod FlushLemmas
 pub mod FrozenLaws
 pub mod GetLemmas

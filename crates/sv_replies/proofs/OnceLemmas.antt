@@ -17,6 +17,7 @@ use Rattle.sv_model.proofs.Entries.{in_append}
 use Rattle.sv_replies.specs.LanesFit.{ended, ended_by, ended_of, purged, purged_by, purged_of}
 use Rattle.sv_replies.specs.SnapLaw.{IsOver}
 use Rattle.sv_replies.specs.Moments.{IsIn}
+use Rattle.sv_replies.specs.Told.{AreGone, AreOver}
 use Rattle.sv_replies.proofs.KnowsLaws.{over-later}
 use Rattle.sv_replies.proofs.AfterLemmas.{has-later}
 
@@ -82,16 +83,15 @@ purged-alone all = append-nil (purged_of all)
 pub ended-alone : (all : List Answered) → ended (all ∷ []) ≡ ended_of all
 ended-alone all = append-nil (ended_of all)
 
--- the numbers are each Gone
-abbrev pub AreGone : Books → List ℕ → Type 0
-AreGone b numbers = (n : ℕ) → In n numbers → IsRegistered b.files.numbers n Gone
-
 gone_keeps : (n : ℕ) (x y : RegisteredFile) → KeepsNumber x y → HasStatus n Gone x → HasStatus n Gone y
 gone_keeps n x y kept h = record { number_is = kept.number ∙ h.number_is; status_is = kept.gone h.status_is }
 
+pub gone-stays : (a b : Books) (n : ℕ) → After a b → IsRegistered a.files.numbers n Gone → IsRegistered b.files.numbers n Gone
+gone-stays a b n after h =
+    has-later KeepsNumber (HasStatus n Gone) (HasStatus n Gone) (gone_keeps n) a.files.numbers b.files.numbers after.numbers h
+
 pub gone-later : (a b : Books) (numbers : List ℕ) → After a b → AreGone a numbers → AreGone b numbers
-gone-later a b numbers after h n has =
-    has-later KeepsNumber (HasStatus n Gone) (HasStatus n Gone) (gone_keeps n) a.files.numbers b.files.numbers after.numbers (h n has)
+gone-later a b numbers after h n has = gone-stays a b n after (h n has)
 
 -- What a purge or scan showed was not Gone before, so none of it was shown before.
 pub purged-once : (a b : Books) (all : List Answered) (x : Answered) → After a b → AreGone a (purged_of all)
@@ -107,9 +107,6 @@ purged-once a b all x after gone once rising new now = (
 )
 
 -- ---- ended snapshots
-
-abbrev pub AreOver : Books → List ℕ → Type 0
-AreOver b numbers = (n : ℕ) → In n numbers → IsIn IsOver b.snapshots n
 
 pub ended-once : (a b : Books) (all : List Answered) (x : Answered) → After a b → AreOver a (ended_of all)
     → Distinct (ended_of all)

@@ -18,7 +18,7 @@ pub sees-push : (all : List Answered) (x : Answered) → GetsSeeAll all
 sees-push all x each here =
     each-push (λ before a. SeesAll (known_after before) (accepted before) a.command a.reply) all x each here
 
-count-changes : (f : ℕ) (journal : List Write) → count_in f (map change_of journal) ≡ length (of_family f journal)
+pub count-changes : (f : ℕ) (journal : List Write) → count_in f (map change_of journal) ≡ length (of_family f journal)
 count-changes f [] = refl
 count-changes f (w ∷ journal) = by (w.family == f) (count-changes f journal)
   where

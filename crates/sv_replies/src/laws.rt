@@ -1,10 +1,8 @@
 // Laws of replies, for all books.
-ghost use Rattle.std.specs.Prelude.{◌≡◌, ◌<◌, ◌≤◌, ◌∷◌, ◌++◌, [], Bool, ℕ, List, map};
+ghost use Rattle.std.specs.Prelude.{◌≡◌, ◌<◌, ◌≤◌, ◌∷◌, ◌++◌, [], Bool, ℕ, List};
 ghost use Rattle.sv_model.specs.After.{After};
 ghost use Rattle.sv_model.specs.Books.{Books};
-ghost use Rattle.sv_model.specs.Journal.{by_lane, change_of};
 ghost use Rattle.sv_model.specs.Lawful.{Lawful};
-ghost use Rattle.sv_model.specs.Lists.{Distinct, Every};
 ghost use Rattle.sv_model.specs.Openings.{IsOpening, opening_books};
 ghost use Rattle.sv_model.specs.Steady.{Sound};
 ghost use Rattle.sv_laws.specs.Changes.{Changes};
@@ -15,15 +13,16 @@ ghost use Rattle.sv_replies.specs.Answers.{Answers};
 ghost use Rattle.sv_replies.specs.FrozenActives.{ActivesAreFrozen};
 ghost use Rattle.sv_replies.specs.Known.{Known, known_after, learn};
 ghost use Rattle.sv_replies.specs.Knows.{Knows};
-ghost use Rattle.sv_replies.specs.LanesFit.{IsOfLanes, LanesFit, accepted, ended_of, purged_of};
-ghost use Rattle.sv_replies.specs.ReplyFits.{RepliesFit, ReplyFits};
+ghost use Rattle.sv_replies.specs.LanesFit.{LanesFit};
+ghost use Rattle.sv_replies.specs.ReplyFits.{ReplyFits};
 ghost use Rattle.sv_replies.specs.Settings.{Setting};
-ghost use Rattle.sv_replies.specs.Told.{LaneTold, Told};
+ghost use Rattle.sv_replies.specs.Told.{AloneTold, LaneTold, Told};
 
 /// A lane that was told nothing yet knows no more than the books of an opening have.
 pub fn replies_that_begin()
     ensures told { (s : Setting) (b : Books) → IsOpening b → Told s b [] }
     ensures lane { (s : Setting) (next : ℕ) → s.lane < 32 → 1 ≤ next → next ≤ 18446744073709551615 → LaneTold s (opening_books next) [] }
+    ensures alone { (s : Setting) (next : ℕ) → s.lane < 32 → 1 ≤ next → next ≤ 18446744073709551615 → AloneTold s (opening_books next) [] }
 {}
 
 /// A reply that fits lawful books, in which all is that the lane was told, fits all lawful books that come after.
@@ -40,13 +39,14 @@ pub fn replies_that_go_on()
         → Told s b (all ++ x ∷ []) }
     ensures lane { (s : Setting) (a b : Books) (all : List Answered) (x : Answered) → Lawful a → Lawful b → After a b → LaneTold s a all
         → Answers s a b (known_after all) x.command x.reply → LaneTold s b (all ++ x ∷ []) }
+    ensures alone { (s : Setting) (a b : Books) (all : List Answered) (x : Answered) → s.lanes ≡ 1 → Lawful a → Lawful b → After a b
+        → AloneTold s a all → Answers s a b (known_after all) x.command x.reply → AloneTold s b (all ++ x ∷ []) }
 {}
 
 /// Where one lane is, its replies fit as those of all lanes.
 pub fn replies_of_one_lane()
-    ensures { (told : Bool) (b : Books) (all : List Answered) → RepliesFit (record { lane = 0; lanes = 1; told = told }) b all
-        → map change_of (by_lane 0 b.journal) ≡ accepted all → Every (IsOfLanes 1) b.journal
-        → Distinct (purged_of all) → Distinct (ended_of all) → LanesFit told b (all ∷ []) }
+    ensures { (told : Bool) (b : Books) (all : List Answered) → AloneTold (record { lane = 0; lanes = 1; told = told }) b all
+        → LanesFit told b (all ∷ []) }
 {}
 
 /// Each SuperVersion's active memtable is that of its family's current or a member of a list: at first, and after each

@@ -12,14 +12,14 @@ returns-in-Ok-clause-answered g c told k all =
     let d = dir_seen (g.D.Dir.files c.args.dir.now) (g.D.Dir.files c.purge.new.dir) (g.D.Dir.faults c.args.dir.now) (g.D.Dir.faults c.purge.new.dir) in
     let a = c.args.store.now in
     let b = c.purge.new.self in
-    purge-replies told a b x.follows k all x.rest d (Ok c.from_vec.result)
+    purge-replies told a b x.follows k all x.rest d c.laws.ensures.rests.stands.sound.lawful.numbers.once (Ok c.from_vec.result)
     (subst (λ (l : List ℕ). Purges a.books.files b.books.files d l) (sym c.from_vec.ensures) x.purged) tt
 
 pub returns-in-Err-clause-answered : goal.returns-in-Err-clause-answered
 returns-in-Err-clause-answered g c told k all =
     let x = c.in-Err.ensures in
     let d = dir_seen (g.D.Dir.files c.args.dir.now) (g.D.Dir.files c.purge.new.dir) (g.D.Dir.faults c.args.dir.now) (g.D.Dir.faults c.purge.new.dir) in
-    purge-replies told c.args.store.now c.purge.new.self x.follows k all x.rest d (Err c.in-Err.refusal) tt x.stops
+    purge-replies told c.args.store.now c.purge.new.self x.follows k all x.rest d c.laws.ensures.rests.stands.sound.lawful.numbers.once (Err c.in-Err.refusal) tt x.stops
 
 pub returns-in-Ok-clause-faults : goal.returns-in-Ok-clause-faults
 returns-in-Ok-clause-faults g c =

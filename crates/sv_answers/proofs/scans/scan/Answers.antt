@@ -16,7 +16,7 @@ returns-in-Ok-clause-answered g c told k all =
     let b = c.scan.new.self in
     let d : DirSeen = record { files = g.D.Dir.files c.args.dir.now; later = g.D.Dir.files c.scan.new.dir; before = g.D.Dir.faults c.args.dir.now; now = g.D.Dir.faults c.scan.new.dir } in
     subst (λ (numbers : List ℕ). Answers (alone told) a.books b.books k command.Scan (reply.Scan numbers)) (sym c.from_vec.ensures)
-    (scan-shown told a b x.follows k all x.rest d c.in-Ok.numbers.items x.scanned)
+    (scan-shown told a b x.follows k all x.rest d c.laws.ensures.rests.stands.sound.lawful.numbers.once c.in-Ok.numbers.items x.scanned)
 
 pub returns-in-Ok-clause-faults : goal.returns-in-Ok-clause-faults
 returns-in-Ok-clause-faults g c =

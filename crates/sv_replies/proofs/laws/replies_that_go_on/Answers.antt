@@ -1,3 +1,4 @@
+use Rattle.sv_replies.proofs.AloneTold.{alone-push}
 use Rattle.sv_replies.proofs.ToldLaws.{lane_told-push, told-later, told-push}
 use Rattle.sv_replies.proofs.laws.replies_that_go_on.Goals as goal
 
@@ -9,3 +10,6 @@ returns-clause-push c = told-push
 
 pub returns-clause-lane : goal.returns-clause-lane
 returns-clause-lane c = lane_told-push
+
+pub returns-clause-alone : goal.returns-clause-alone
+returns-clause-alone c = alone-push
