@@ -1,5 +1,5 @@
 -- How much each change of the books makes, and that it adds up.
-use Rattle.std.proofs.Common.{◌≡◌, ◌<◌, ◌≤◌, ◌+◌, inl, inr, ⊎_elim, ℕ, zero, suc, List, [], ◌∷◌, ◌++◌, length, Option, Some, None, refl, sym, ◌∙◌, ap, subst, arith}
+use Rattle.std.proofs.Common.{◌≡◌, ◌<◌, ◌≤◌, ◌+◌, inl, inr, ⊎_elim, ℕ, zero, suc, false, List, [], ◌∷◌, ◌++◌, length, Option, Some, None, refl, sym, ◌∙◌, ap, subst, arith}
 use Rattle.std.specs.Prelude.{slice_get}
 use Rattle.std.proofs.lemmas.Bool.{cases_lt}
 use Rattle.std.proofs.lemmas.List.{append-nil, length_push}
@@ -189,7 +189,12 @@ grows-then a m b i n same one two =
 
 -- or the first
 pub grows-after : (a m b : Books) (i n : ℕ) → Continues m.metas b.metas → Grows a m 0 0 → Grows m b i n → Grows a b i n
-grows-after a m b i n more one two = grows-through a m b 0 i 0 n more one two
+grows-after a m b i n more one two =
+    let both = grows-through a m b 0 i 0 n more one two in
+    record {
+      made = let x = both.made in omega (arith, x);
+      draws = subst (λ z. Draws a b z) (let q : 0 + n ≡ n = omega arith in q) both.draws;
+    }
 
 -- ---- a reply that shows nothing made
 
