@@ -115,10 +115,10 @@ set-makes a b name option value serial h = record {
 
 released-grows : (a b : Books) (name : List ℕ) (o : Option ℕ) → IsReleasedAs a b 0 name o → Grows a b 0 0
 released-grows a b name None h =
-    let is = h.2.2.2.is in
+    let is = h.4.is in
     grows-rest a b (ap (λ (z : Books). z.supers) is) (ap (λ (z : Books). z.memtables) is) (ap (λ (z : Books). z.metas) is) (ap (λ (z : Books). z.files.next) is)
 released-grows a b name (Some f) h =
-    let is = h.2.2.is in
+    let is = h.3.is in
     grows-rest a b (ap (λ (z : Books). z.supers) is) (ap (λ (z : Books). z.memtables) is) (ap (λ (z : Books). z.metas) is) (ap (λ (z : Books). z.files.next) is)
 
 pub release-makes : (a b : Books) (name : List ℕ) → Releases a b name → Makes a b reply.Release 0

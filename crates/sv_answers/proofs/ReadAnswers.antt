@@ -134,7 +134,7 @@ get-replies told b law held k all name key in_key (Err e) found refused =
 
 -- ---- what is no key
 
-no-want : (n : ℕ) (e : Refusal) → key_refusal n ≡ Some e → e ≡ refusal.OutOfMemory → ⊥
+pub no-want : (n : ℕ) (e : Refusal) → key_refusal n ≡ Some e → e ≡ refusal.OutOfMemory → ⊥
 no-want n e h = by (nat_le 1 n && nat_le n MAX_KEY) h
   where
     by : (d : Bool) → cond d None (Some (refusal.KeyLength n)) ≡ Some e → e ≡ refusal.OutOfMemory → ⊥

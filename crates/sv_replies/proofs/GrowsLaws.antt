@@ -176,7 +176,7 @@ makes-push a m b all x more one two =
 
 -- ---- where the second change makes nothing
 
-goes-same : (a b : List FileMeta) → b ≡ a → Continues a b
+pub goes-same : (a b : List FileMeta) → b ≡ a → Continues a b
 goes-same a b same = ([], same ∙ sym (append-nil a))
 
 pub grows-then : (a m b : Books) (i n : ℕ) → b.metas ≡ m.metas → Grows a m i n → Grows m b 0 0 → Grows a b i n

@@ -42,7 +42,7 @@ rose_at_close ended left told before now is clean rose =
 
 closed_refusal : (i : Input) (d : Directory) (done : Done) → IsDoneAs end.DirFault i d done → Rose d.before d.now
 closed_refusal i d done h =
-    let ran = h.is.ran.ran in
+    let ran = h.is.ran in
     rose_at_close done.end (left_of done) _ d.before d.now h.close ran.clean.1 ran.faults
 
 pub completes : (i : Input) (d : Directory) (o : Output) (stands : Option Done) (answer : Status) → Ends i d o stands answer → Completes i d o answer

@@ -1,29 +1,24 @@
 -- What a run owes: how it may end, and what is then written.
-use Rattle.std.specs.Prelude.{◌≡◌, ◌<◌, ◌+◌, ◌≤◌, ◌⊎◌, ◌↔◌, ℕ, true, List, [], ◌∷◌, Option, Some, None, Ok, Err, All, IfSome, IsSomeAnd, is_some, map, length}
-use Rattle.std.specs.FinMap as finite
+use Rattle.std.specs.Prelude.{◌≡◌, ◌+◌, ◌<◌, ◌≤◌, ◌⊎◌, ◌↔◌, ℕ, List, [], ◌∷◌, Option, Some, None, Ok, Err, IfSome, IsSomeAnd, is_some, length}
 use Rattle.std.specs.Io.KnownBytes.{Appends}
-use Rattle.sv_model.specs.declared.End.{End}
-use Rattle.sv_model.specs.declared.End.TheVariants as end
+use Rattle.sv_model.specs.declared.reports.End.{End}
+use Rattle.sv_model.specs.declared.reports.End.TheVariants as end
 use Rattle.sv_model.specs.Faults.{Rose, RoseBy}
-use Rattle.sv_model.specs.Journal.{change_of}
+use Rattle.sv_model.specs.Lists.{Every, total}
 use Rattle.sv_model.specs.Summaries.{summary_of, obsolete_of}
-use Rattle.sv_model.specs.Books.{Books}
-use Rattle.sv_model.specs.Files.{Files}
-use Rattle.sv_dir.specs.TableNames.{number_named}
-use Rattle.sv_script.specs.declared.BadLine.{BadLine}
-use Rattle.sv_script.specs.declared.Script.{Script}
-use Rattle.sv_script.specs.declared.Reply.{Reply}
-use Rattle.sv_script.specs.declared.LaneReport.{LaneReport}
-use Rattle.sv_script.specs.declared.Outcome.TheVariants as outcome
-use Rattle.sv_script.specs.Answered.{answered, accepted, dir_faults}
+use Rattle.sv_script.specs.declared.scripts.BadLine.{BadLine}
+use Rattle.sv_script.specs.declared.scripts.Script.{Script}
+use Rattle.sv_script.specs.declared.outcomes.Outcome.TheVariants as outcome
+use Rattle.sv_script.specs.Answered.{dir_faults}
 use Rattle.sv_script.specs.OutcomeTexts.{outcome_text}
-use Rattle.sv_script.specs.ReplyLaw.{RepliesFit, GetsSeeAll}
 use Rattle.sv_script.specs.ReportTexts.{report_text}
 use Rattle.sv_script.specs.Script.{script_of}
-use Rattle.sv_plain.specs.Closed.{IsClosed}
-use Rattle.sv_model.specs.HeldFiles.{GoneAreAbsent, OthersStay}
-use Rattle.sv_plain.specs.Held.{Both, Holds}
+use Rattle.sv_replies.specs.GetsSeeAll.{GetsSeeAll}
+use Rattle.sv_replies.specs.LanesFit.{LanesFit}
+use Rattle.sv_store.specs.Closing.{IsClosed}
 use Rattle.sv_run.specs.Handed.{Input, Directory, Output, KeepsFiles, IsUntouched}
+use Rattle.sv_run.specs.Lanes.{AreDrawnFrom, AreReports, HasNoCounts, LeavesIfTold, MakesShown, answered_of}
+use Rattle.sv_run.specs.Openings.{IsFirst}
 use Rattle.sv_run.specs.RunWords.{AreRun, IsHelp}
 use Rattle.sv_run.specs.Transfers.{IsLong, AppendsPart}
 use Rattle.sv_run.specs.declared.outcomes.Status.{Status}
@@ -42,51 +37,41 @@ pub record IsBad (bad : BadLine) (bytes : List ℕ) : Type 0 where
 
 -- ---- what the lanes leave
 
--- The files after the run: those of the last Version hold their text, each Gone one is absent, files of other
--- names are as they were, and no file that stood there had a number that was captured, or one above it.
-pub record LeavesFiles (books : Books) (before after : Files) : Type 0 where
-  pub holds : Holds books after
-  pub gone : GoneAreAbsent books.files.numbers after
-  pub others : OthersStay books.files.numbers before after
-  pub above : (name : List ℕ) (n : ℕ) → finite.contains_key before name ≡ true → number_named name ≡ Some n → All (λ f. n < f.number) books.files.numbers
-
--- the numbers that close left
+-- the numbers that close left, ascending
 abbrev pub left_of : Done → List ℕ
-left_of done = obsolete_of done.books.files.numbers
+left_of done = obsolete_of done.books.books.files.numbers
 
 -- how often the directory failed at close: at each number that is left, where it ended so
 abbrev pub faults_at_close : End → List ℕ → ℕ
 faults_at_close end.DirFault left = length left
 faults_at_close ended left = 0
 
--- The one lane answered each line of the script, in order. Its replies fit the books, the journal is exactly
--- its accepted writes, each once and in order, and each get looked at just the writes before it. Then the store
--- was closed, cleanly just where no number is left. The directory failed as often as the lane was told and close
--- met, or more often.
-pub record LaneRan (d : Directory) (done : Done) (script : Script) (lane : LaneReport) : Type 0 where
-  pub lanes : done.lanes ≡ lane ∷ []
-  pub lane_is : lane.lane ≡ 1
-  pub numbers : map (λ (r : ℕ × Reply). r.0) lane.replies ≡ map (λ line. line.line) script.lines
-  pub fits : RepliesFit (is_some d.files) done.books 0 (answered script.lines lane.replies)
-  pub journal : map change_of done.books.journal ≡ accepted (answered script.lines lane.replies)
-  pub cuts : GetsSeeAll (answered script.lines lane.replies)
-  pub closed : IsClosed done.books
+-- Each lane answered its lines of the script, in order. The replies fit the books; where there is one lane each get
+-- looked at just the writes before it. What was made is what the replies show, and the first file's number is one above
+-- the greatest that a file was named by, or 1. Then the store was closed: nothing is kept but what the families that
+-- stand show, and the numbers that are left, of which a clean close has none. The directory failed as often as the lanes
+-- were told and close met, or more often.
+pub record LanesRan (d : Directory) (script : Script) (done : Done) : Type 0 where
+  pub reports : AreReports script done.lanes
+  pub counts : Every HasNoCounts done.lanes
+  pub fits : LanesFit (is_some d.files) done.books.books (answered_of script done.lanes)
+  pub sees : script.lanes ≡ 1 → Every GetsSeeAll (answered_of script done.lanes)
+  pub makes : MakesShown done.books.books (answered_of script done.lanes)
+  pub first : ℕ
+  pub first_is : IfSome d.files (IsFirst first)
+  pub drawn : AreDrawnFrom first done.books.books
+  pub closed : IsClosed done.books.books
   pub clean : (done.end ≡ end.Clean) ↔ (left_of done ≡ [])
-  pub files : Both (LeavesFiles done.books) d.files d.later
-  pub faults : RoseBy (dir_faults (answered script.lines lane.replies) + faults_at_close done.end (left_of done)) d.before d.now
-
--- the one lane of the script ran
-pub record HasRun (d : Directory) (script : Script) (done : Done) : Type 0 where
-  pub lane : LaneReport
-  pub ran : LaneRan d done script lane
+  pub files : LeavesIfTold done.books.books d.files d.later
+  pub faults : RoseBy (total dir_faults (answered_of script done.lanes) + faults_at_close done.end (left_of done)) d.before d.now
 
 -- ---- endings
 
--- The source held a script, where it tells its bytes, and its one lane ran.
+-- The source held a script, where it tells its bytes, and its lanes ran.
 pub record IsDone (i : Input) (d : Directory) (done : Done) : Type 0 where
   pub script : Script
   pub read : IfSome i.left (IsScript script)
-  pub ran : HasRun d script done
+  pub ran : LanesRan d script done
 
 -- a run that was closed so
 pub record IsDoneAs (ended : End) (i : Input) (d : Directory) (done : Done) : Type 0 where
@@ -128,7 +113,7 @@ Follows i d stands status = AreRun i.words × Comes i d stands status
 
 -- the report of what stands
 abbrev pub report_of : Done → List ℕ
-report_of done = report_text done.lanes (summary_of done.end done.books)
+report_of done = report_text done.lanes (summary_of done.end done.books.books)
 
 -- the text for want of memory
 abbrev pub short_text : List ℕ

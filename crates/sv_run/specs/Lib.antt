@@ -1,12 +1,10 @@
 pub mod Ends
 pub mod ExitCodes
 pub mod Handed
+pub mod Lanes
 pub mod Memory
 pub mod Openings
 pub mod RunWords
-pub mod States
 pub mod Statuses
-pub mod Steps
 pub mod Stops
-pub mod Told
 pub mod Transfers

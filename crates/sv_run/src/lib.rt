@@ -1,12 +1,10 @@
 //! The top call: a script from a source, its report to a sink, over a directory of table files.
 #![tactic(auto)]
 
-mod answers;
 mod closing;
 mod memory;
 mod opening;
 mod outcomes;
-mod playing;
 mod scripts;
 mod standard;
 mod stops;
@@ -19,6 +17,5 @@ pub use memory::{MemSink, MemSource};
 pub use outcomes::{Done, Ran, Status};
 pub use standard::{StdSink, StdSource};
 pub use streams::{Failed, Sink, Source};
-pub use sv_plain::{Got, Plain};
 pub use top::{run, run_without_memory};
 pub use words::dir_word;

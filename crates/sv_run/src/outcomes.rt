@@ -1,7 +1,7 @@
 // How a run ends.
 use sv_model::{End, Items};
-use sv_plain::Plain;
 use sv_script::{BadLine, LaneReport};
+use sv_state::State;
 
 /// How a run ended.
 #[derive(Clone, Copy, Debug, PartialEq, Eq)]
@@ -49,7 +49,7 @@ impl Status {
 /// What stands after the lanes ran to the end of the script and the store was closed.
 #[derive(Drop)]
 pub struct Done {
-    pub books: Plain,
+    pub books: State,
     pub lanes: Items<LaneReport>,
     pub end: End,
 }

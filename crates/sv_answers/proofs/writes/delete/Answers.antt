@@ -1,4 +1,4 @@
-use Rattle.std.proofs.Common.{length, refl}
+use Rattle.std.proofs.Common.{length, refl, ◌∷◌, []}
 use Rattle.std.specs.Prelude.{Ok, Err}
 use Rattle.sv_model.specs.declared.writes.Op.TheVariants as op
 use Rattle.sv_script.specs.declared.commands.Command.TheVariants as command
@@ -9,6 +9,8 @@ use Rattle.sv_answers.proofs.WriteAnswers.{write-answers}
 use Rattle.sv_answers.proofs.QuietRefusals.{due-quiet, key-quiet, write-quiet}
 use Rattle.sv_answers.proofs.MakesAnswers.{accepted-grows, makes-refused, refused-grows}
 use Rattle.sv_replies.proofs.GrowsLaws.{makes-zero}
+use Rattle.sv_replies.specs.Due.{dropped_cause, handle_cause}
+use Rattle.sv_answers.proofs.ReadAnswers.{key-replies}
 use Rattle.sv_answers.proofs.writes.delete.Goals as goal
 
 pub returns-in-Ok-delete-clause-answered : goal.returns-in-Ok-delete-clause-answered
@@ -57,3 +59,8 @@ returns-in-Err-delete-clause-makes c =
 
 pub returns-in-Err-clause-makes : goal.returns-in-Err-clause-makes
 returns-in-Err-clause-makes c = makes-refused c.args.store.now.books c.in-Err.refusal
+
+pub returns-in-Err-clause-answered : goal.returns-in-Err-clause-answered
+returns-in-Err-clause-answered c told k all =
+    key-replies told c.args.store.now.books k (command.Delete c.args.name.now c.args.key.now) c.args.key.now
+    (handle_cause k c.args.name.now ∷ dropped_cause k c.args.name.now ∷ []) c.in-Err.refusal all refl tt c.in-Err.ensures.refused

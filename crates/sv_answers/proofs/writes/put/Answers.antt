@@ -4,7 +4,7 @@ use Rattle.sv_model.specs.declared.writes.Op.TheVariants as op
 use Rattle.sv_script.specs.declared.commands.Command.TheVariants as command
 use Rattle.sv_script.specs.declared.replies.Reply.TheVariants as reply
 use Rattle.sv_answers.proofs.HeldAnswers.{write-held}
-use Rattle.sv_answers.proofs.PutAnswers.{put-is, row-free}
+use Rattle.sv_answers.proofs.PutAnswers.{put-is, row-free, row-replies}
 use Rattle.sv_answers.proofs.WriteAnswers.{write-answers}
 use Rattle.sv_answers.proofs.QuietRefusals.{due-quiet, row-quiet, write-quiet}
 use Rattle.sv_answers.proofs.MakesAnswers.{accepted-grows, makes-refused, refused-grows}
@@ -63,3 +63,7 @@ returns-in-Err-put-clause-makes c =
 
 pub returns-in-Err-clause-makes : goal.returns-in-Err-clause-makes
 returns-in-Err-clause-makes c = makes-refused c.args.store.now.books c.in-Err.refusal
+
+pub returns-in-Err-clause-answered : goal.returns-in-Err-clause-answered
+returns-in-Err-clause-answered c told k all =
+    row-replies told c.args.store.now.books k c.args.name.now c.args.key.now c.args.value.now c.in-Err.refusal all c.in-Err.ensures.refused

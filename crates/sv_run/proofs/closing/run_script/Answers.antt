@@ -1,18 +1,26 @@
 -- The lines were answered, and then the store was closed.
-use Rattle.std.proofs.Common.{List, subst}
-use Rattle.sv_script.specs.declared.Line.{Line}
-use Rattle.sv_run.specs.States.{state_of}
-use Rattle.sv_run.specs.Told.{Played}
-use Rattle.sv_run.proofs.Running.{has_run}
+use Rattle.std.proofs.Common.{List, is_some, sym, subst, ◌≡◌, ℕ, Option}
+use Rattle.sv_model.specs.Openings.{opening_books}
+use Rattle.sv_model.specs.Files.{Files}
+use Rattle.sv_script.specs.declared.replies.LaneReport.{LaneReport}
+use Rattle.sv_script.specs.declared.scripts.Line.{Line}
+use Rattle.sv_script.specs.declared.scripts.Script.{Script}
+use Rattle.sv_lane.specs.Played.{Moment, Played}
+use Rattle.sv_run.specs.Ends.{LanesRan}
+use Rattle.sv_run.proofs.Running.{lanes-ran}
 use Rattle.sv_run.proofs.closing.run_script.Goals as goal
 
 pub returns-clause-ran : goal.returns-clause-ran
 returns-clause-ran g c =
-    let start = state_of c.in_ok-books.books (g.D.Dir.files c.args.dir.now) (g.D.Dir.faults c.args.dir.now) in
-    let now = state_of c.play-replies.new.plain (g.D.Dir.files c.play-replies.new.dir) (g.D.Dir.faults c.play-replies.new.dir) in
-    let close = c.close-end.ensures in
-    has_run start now c.close-end.new.self (g.D.Dir.files c.close-end.new.dir) (g.D.Dir.faults c.close-end.new.dir) c.args.first c.close-end.result c.args.script.now c.play-replies.result c.one_lane.result
-    (subst (λ (lines : List Line). Played start now lines c.play-replies.result) c.as_slice-lines.ensures c.play-replies.ensures)
-    c.in_ok-books.ensures.numbers.1 c.requires.above
-    (record { is = close.closed; journal = close.journal; after = close.after; numbered = close.numbered; holds = close.holds; others = close.others; gone = close.gone })
-    close.end close.later c.one_lane.ensures
+    let files = g.D.Dir.files c.args.dir.now in
+    let before = g.D.Dir.faults c.args.dir.now in
+    let now : Moment = record { books = c.play-replies.new.store.books; files = g.D.Dir.files c.play-replies.new.dir; faults = g.D.Dir.faults c.play-replies.new.dir } in
+    let later = g.D.Dir.files c.close-closed.new.dir in
+    let faults = g.D.Dir.faults c.close-closed.new.dir in
+    let x = c.close-closed.ensures in
+    subst (λ (z : List LaneReport). LanesRan (record { files = files; later = later; before = before; now = faults }) c.args.script.now (record { books = c.close-closed.result.books; lanes = z; end = c.close-closed.result.end }))
+    (sym c.one_lane.ensures)
+    (lanes-ran c.args.script.now c.requires.well_formed c.args.first files c.requires.first before now c.play-replies.result
+    c.play-replies.ensures
+    c.close-closed.result.books c.close-closed.result.end later faults
+    (record { is = x.closed; closes = x.closes; ends = x.end; held = x.held; others = x.others; more = x.later; follows = x.follows }))
