@@ -1,9 +1,9 @@
--- Which commands the one lane runs, and what they tell of the files.
+-- Which commands ask nothing of the directory, and what the others tell of its files.
 use Rattle.std.specs.Prelude.{Bool, true, false, T}
 use Rattle.sv_model.specs.Books.{FileRegister}
 use Rattle.sv_store.specs.Removals.{DirSeen}
 use Rattle.sv_script.specs.declared.commands.Command.{Command}
-use Rattle.sv_script.specs.declared.commands.Command.TheVariants.{Compact, Create, Delete, Drop, Flush, Get, Gets, Hold, Live, Open, Purge, Put, Release, Scan, Set, Snap, Unhold, Unsnap}
+use Rattle.sv_script.specs.declared.commands.Command.TheVariants.{Create, Delete, Drop, Hold, Live, Open, Purge, Put, Release, Scan, Set, Snap, Unhold, Unsnap}
 use Rattle.sv_script.specs.declared.replies.Reply.{Reply}
 use Rattle.sv_answers.specs.Answered.{TellsPurge, TellsScan}
 
@@ -25,20 +25,6 @@ asks_none command = false
 
 abbrev pub AsksNone : Command → Type 0
 AsksNone command = T (asks_none command)
-
--- The commands that are run. Pins and rests are not among them: the one lane keeps no SuperVersion from one command to
--- the next.
-abbrev pub is_run : Command → Bool
-is_run (Get family key) = true
-is_run (Gets snapshot family key) = true
-is_run (Flush family) = true
-is_run (Compact family) = true
-is_run Purge = true
-is_run Scan = true
-is_run command = asks_none command
-
-abbrev pub IsRun : Command → Type 0
-IsRun command = T (is_run command)
 
 -- what a purge or a scan did to the file register and the directory, as its reply tells it
 abbrev pub TellsFiles : Command → FileRegister → FileRegister → DirSeen → Reply → Type 0

@@ -1,9 +1,10 @@
 // The answer of the one lane to a command.
 ghost use Rattle.std.specs.Prelude.{◌≡◌, Bool, is_some};
+ghost use Rattle.sv_script.specs.Built.{IsBuilt};
 ghost use Rattle.sv_state.specs.Follows.{Follows};
 ghost use Rattle.sv_replies.specs.Makes.{Makes, draws_by};
 ghost use Rattle.sv_answers.specs.Answered.{CountsReply, IsAnswered, IsHeld, KeepsHeld, TellsNoFault};
-ghost use Rattle.sv_answers.specs.Run.{AsksNone, IsRun, TellsFiles};
+ghost use Rattle.sv_answers.specs.Run.{AsksNone, TellsFiles};
 
 use crate::compactions::compact;
 use crate::families::{create, drop_family, open, release};
@@ -56,7 +57,7 @@ fn answer_in_memory(alloc: Global, store: &mut Store, command: &Command) -> Repl
 
 /// The reply to a command, by the rules of replies: any but those of pins and rests.
 pub fn answer<D: Dir>(alloc: Global, store: &mut Store, dir: &mut D, command: &Command) -> Reply
-    requires built { IsRun command.now }
+    requires built { IsBuilt command.now }
     ensures answered { IsHeld store.old.books (D.files dir.old) → IsAnswered (is_some (D.files dir.old)) store.old.books store.new.books command.now result }
     ensures makes { Makes store.old.books store.new.books result (draws_by command.now result) }
     ensures files { TellsFiles command.now store.old.books.files store.new.books.files (record { files = D.files dir.old; later = D.files dir.new; before = D.faults dir.old; now = D.faults dir.new }) result }

@@ -1,8 +1,8 @@
 // The lines of the one lane, each answered once and in order.
 ghost use Rattle.std.specs.Prelude.{◌≡◌, ◌≤◌, [], All, is_some, length, vec_capacity};
+ghost use Rattle.sv_script.specs.Built.{IsBuilt};
 ghost use Rattle.sv_replies.specs.Told.{AloneTold};
 ghost use Rattle.sv_answers.specs.Answered.{IsHeld, alone};
-ghost use Rattle.sv_answers.specs.Run.{IsRun};
 ghost use Rattle.sv_lane.specs.Played.{Played};
 
 use std::alloc::Global;
@@ -20,7 +20,7 @@ pub fn play<D: Dir>(
     lines: &[Line],
     mut replies: Vec<(u64, Reply)>,
 ) -> Items<(u64, Reply)>
-    requires run { All (λ line. IsRun line.command) lines.now }
+    requires built { All (λ line. IsBuilt line.command) lines.now }
     requires told { AloneTold (alone (is_some (D.files dir.old))) store.old.books [] }
     requires held { IsHeld store.old.books (D.files dir.old) }
     requires no_replies { replies.items ≡ [] }

@@ -10,7 +10,7 @@ use Rattle.std.proofs.lemmas.List.{map-append, take_more}
 use Rattle.std.proofs.lemmas.Option.{cond_some}
 use Rattle.std.proofs.lemmas.Str.Parse.{IsNumeralModel, numerals_by_value, tells_all_ascii_digits, digits_value_short}
 use Rattle.sv_model.proofs.Entries.{get_one, in-left, in-right, in_append, some}
-use Rattle.sv_model.proofs.KeyOrder.{same_eq, same_itself}
+use Rattle.sv_model.proofs.KeyOrder.{same_eq, same_yes}
 use Rattle.sv_model.specs.Files.{Files, suffix}
 use Rattle.sv_model.specs.Lists.{In}
 use Rattle.sv_dir.specs.Files.{ListsEach, same_name}
@@ -92,7 +92,7 @@ in-any name [] zero h = absurd (cc)
 in-any name [] (suc i) h = absurd (cc)
 in-any name (x ∷ l) zero h =
     let same : x ≡ name = some h in
-    ap (λ b. b || list_any (same_name name) l) (ap (same_name name) same ∙ same_itself name)
+    ap (λ b. b || list_any (same_name name) l) (ap (same_name name) same ∙ same_yes name name refl)
 in-any name (x ∷ l) (suc i) h = by (same_name name x) (in-any name l i h)
   where
     by : (b : Bool) → list_any (same_name name) l ≡ true → (b || list_any (same_name name) l) ≡ true

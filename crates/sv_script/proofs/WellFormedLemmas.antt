@@ -2,6 +2,7 @@
 use Rattle.std.proofs.Common.{◌≡◌, ℕ, ◌+◌, ◌≤◌, ◌<◌, max, Bool, true, false, cond, ◌&&◌, leb, ltb, List, [], ◌∷◌}
 use Rattle.std.proofs.Common.{map, fold, length, Option, Some, None, Result, Ok}
 use Rattle.std.proofs.Common.{Err, IfOk, refl, sym, ap, subst, ◌∙◌, arith}
+use Rattle.std.specs.Prelude.{T}
 use Rattle.std.proofs.lemmas.Bool.Decides.{nat_tests}
 use Rattle.std.proofs.lemmas.List.Elements.{All-from_recursion}
 use Rattle.std.proofs.lemmas.List.Sums.{sum_by-cons}
@@ -15,7 +16,6 @@ use Rattle.sv_script.specs.declared.scripts.Line.{Line}
 use Rattle.sv_script.specs.declared.scripts.Script.{Script}
 use Rattle.sv_script.specs.declared.scripts.ScriptError.{ScriptError}
 use Rattle.sv_script.specs.declared.commands.Command.{Command}
-use Rattle.sv_script.specs.declared.commands.Command.TheVariants as commands
 use Rattle.sv_script.specs.Built.{IsBuilt, is_built, may_run}
 use Rattle.sv_script.specs.Commands.{command_of}
 use Rattle.sv_script.specs.Numbers.{in_lanes, lane_of, number_of}
@@ -52,11 +52,7 @@ kept false m n e = absurd (cc)
 -- ---- one line
 
 built : (command : Command) → is_built command ≡ true → IsBuilt command
-built (commands.Put family key value) e = tt
-built (commands.Delete family key) e = tt
-built (commands.Get family key) e = tt
-built (commands.Flush family) e = tt
-built _ e = absurd (cc)
+built command e = subst T (sym e) tt
 
 is_lane : (o : Option ℕ) (n : ℕ) → in_lanes o ≡ Some n → 1 ≤ n
 is_lane None n e = absurd (cc)

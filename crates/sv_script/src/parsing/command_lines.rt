@@ -18,9 +18,9 @@ use std::alloc::Global;
 fn is_built(command: &Command) -> bool
     ensures { result ≡ is_built command.now }
 {
-    matches!(
+    !matches!(
         command,
-        Command::Put { .. } | Command::Delete { .. } | Command::Get { .. } | Command::Flush(_)
+        Command::Pin(_) | Command::Unpin(_) | Command::Getp { .. } | Command::Rest
     )
 }
 
