@@ -1,7 +1,7 @@
 // The answer of the one lane to a command.
 ghost use Rattle.std.specs.Prelude.{◌≡◌, Bool, is_some};
 ghost use Rattle.sv_state.specs.Follows.{Follows};
-ghost use Rattle.sv_answers.specs.Answered.{CountsReply, IsAnswered, IsHeld, KeepsHeld, TellsNoFault};
+ghost use Rattle.sv_answers.specs.Answered.{CountsReply, IsAnswered, IsHeld, KeepsHeld, KeepsOthers, LeavesOthers, TellsNoFault};
 ghost use Rattle.sv_answers.specs.Run.{AsksNone, IsRun, TellsFiles};
 
 use crate::compactions::compact;
@@ -26,6 +26,7 @@ fn answer_in_memory(alloc: Global, store: &mut Store, command: &Command) -> Repl
     ensures answered { (told : Bool) → IsAnswered told store.old.books store.new.books command.now result }
     ensures quiet { TellsNoFault result }
     ensures held { KeepsHeld store.old.books store.new.books }
+    ensures others { KeepsOthers store.old.books store.new.books }
     ensures follows { Follows store.old.books store.new.books }
 {
     store.laws();
@@ -60,6 +61,7 @@ pub fn answer<D: Dir>(alloc: Global, store: &mut Store, dir: &mut D, command: &C
     ensures faults { CountsReply result (D.faults dir.old) (D.faults dir.new) }
     ensures held { IsHeld store.old.books (D.files dir.old) → IsHeld store.new.books (D.files dir.new) }
     ensures told { is_some (D.files dir.new) ≡ is_some (D.files dir.old) }
+    ensures others { LeavesOthers store.old.books store.new.books (D.files dir.old) (D.files dir.new) }
     ensures follows { Follows store.old.books store.new.books }
 {
     store.laws();

@@ -2,7 +2,7 @@
 ghost use Rattle.std.specs.Prelude.{Bool};
 ghost use Rattle.sv_script.specs.declared.commands.Command.TheVariants as command;
 ghost use Rattle.sv_state.specs.Follows.{Follows};
-ghost use Rattle.sv_answers.specs.Answered.{IsAnswered, KeepsHeld, TellsNoFault};
+ghost use Rattle.sv_answers.specs.Answered.{IsAnswered, KeepsHeld, KeepsOthers, TellsNoFault};
 
 use sv_model::Name;
 use sv_script::Reply;
@@ -13,6 +13,7 @@ pub fn create(store: &mut Store, name: &Name) -> Reply
     ensures answered { (told : Bool) → IsAnswered told store.old.books store.new.books (command.Create name.now) result }
     ensures quiet { TellsNoFault result }
     ensures held { KeepsHeld store.old.books store.new.books }
+    ensures others { KeepsOthers store.old.books store.new.books }
     ensures follows { Follows store.old.books store.new.books }
 {
     store.laws();
@@ -27,6 +28,7 @@ pub fn open(store: &mut Store, name: &Name) -> Reply
     ensures answered { (told : Bool) → IsAnswered told store.old.books store.new.books (command.Open name.now) result }
     ensures quiet { TellsNoFault result }
     ensures held { KeepsHeld store.old.books store.new.books }
+    ensures others { KeepsOthers store.old.books store.new.books }
     ensures follows { Follows store.old.books store.new.books }
 {
     store.laws();
@@ -41,6 +43,7 @@ pub fn release(store: &mut Store, name: &Name) -> Reply
     ensures answered { (told : Bool) → IsAnswered told store.old.books store.new.books (command.Release name.now) result }
     ensures quiet { TellsNoFault result }
     ensures held { KeepsHeld store.old.books store.new.books }
+    ensures others { KeepsOthers store.old.books store.new.books }
     ensures follows { Follows store.old.books store.new.books }
 {
     store.laws();
@@ -55,6 +58,7 @@ pub fn drop_family(store: &mut Store, name: &Name) -> Reply
     ensures answered { (told : Bool) → IsAnswered told store.old.books store.new.books (command.Drop name.now) result }
     ensures quiet { TellsNoFault result }
     ensures held { KeepsHeld store.old.books store.new.books }
+    ensures others { KeepsOthers store.old.books store.new.books }
     ensures follows { Follows store.old.books store.new.books }
 {
     store.laws();

@@ -3,7 +3,7 @@ ghost use Rattle.std.specs.Prelude.{◌≡◌, ◌∷◌, [], Bool, IfOk, length
 ghost use Rattle.sv_model.specs.Refusals.{Refuses, first_due, key_refusal, value_refusal};
 ghost use Rattle.sv_script.specs.declared.commands.Command.TheVariants as command;
 ghost use Rattle.sv_state.specs.Follows.{Follows};
-ghost use Rattle.sv_answers.specs.Answered.{IsAnswered, KeepsHeld, TellsNoFault};
+ghost use Rattle.sv_answers.specs.Answered.{IsAnswered, KeepsHeld, KeepsOthers, TellsNoFault};
 
 use std::alloc::Global;
 use sv_model::{Key, Name, Refusal, Value};
@@ -25,6 +25,7 @@ pub fn put(alloc: Global, store: &mut Store, name: &Name, key: &[u8], value: &[u
     ensures answered { (told : Bool) → IsAnswered told store.old.books store.new.books (command.Put name.now key.now value.now) result }
     ensures quiet { TellsNoFault result }
     ensures held { KeepsHeld store.old.books store.new.books }
+    ensures others { KeepsOthers store.old.books store.new.books }
     ensures follows { Follows store.old.books store.new.books }
 {
     store.laws();
@@ -42,6 +43,7 @@ pub fn delete(alloc: Global, store: &mut Store, name: &Name, key: &[u8]) -> Repl
     ensures answered { (told : Bool) → IsAnswered told store.old.books store.new.books (command.Delete name.now key.now) result }
     ensures quiet { TellsNoFault result }
     ensures held { KeepsHeld store.old.books store.new.books }
+    ensures others { KeepsOthers store.old.books store.new.books }
     ensures follows { Follows store.old.books store.new.books }
 {
     store.laws();

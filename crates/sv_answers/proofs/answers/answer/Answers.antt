@@ -6,6 +6,7 @@ use Rattle.sv_replies.specs.Answers.{Answers}
 use Rattle.sv_answers.specs.Answered.{alone}
 use Rattle.sv_answers.proofs.QuietRefusals.{counts-quiet}
 use Rattle.sv_answers.proofs.CommandFiles.{tells-as, tells-none}
+use Rattle.sv_answers.proofs.HeldAnswers.{read-others}
 use Rattle.sv_answers.proofs.answers.answer.Goals as goal
 
 pub returns-in-Scan-clause-answered : goal.returns-in-Scan-clause-answered
@@ -25,6 +26,7 @@ returns-in_default g c =
       faults = counts-quiet x.result (g.D.Dir.faults c.args.dir.now) x.ensures.quiet;
       held = x.ensures.held (g.D.Dir.files c.args.dir.now);
       told = refl;
+      others = x.ensures.others (g.D.Dir.files c.args.dir.now);
       follows = x.ensures.follows;
     }
 
@@ -52,3 +54,9 @@ pub returns-in-Scan-clause-files : goal.returns-in-Scan-clause-files
 returns-in-Scan-clause-files g c =
     let d : DirSeen = record { files = g.D.Dir.files c.args.dir.now; later = g.D.Dir.files c.scan.new.dir; before = g.D.Dir.faults c.args.dir.now; now = g.D.Dir.faults c.scan.new.dir } in
     tells-as c.args.store.now.books.files c.scan.new.store.books.files d c.scan.result c.args.command.now command.Scan c.in-Scan.is c.scan.ensures.scanned
+
+pub returns-in-Get-clause-others : goal.returns-in-Get-clause-others
+returns-in-Get-clause-others g c = read-others c.args.store.now.books (g.D.Dir.files c.args.dir.now) (g.D.Dir.files c.get.new.dir) c.get.ensures.same
+
+pub returns-in-Gets-clause-others : goal.returns-in-Gets-clause-others
+returns-in-Gets-clause-others g c = read-others c.args.store.now.books (g.D.Dir.files c.args.dir.now) (g.D.Dir.files c.gets.new.dir) c.gets.ensures.same

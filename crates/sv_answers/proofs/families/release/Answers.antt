@@ -1,5 +1,5 @@
 use Rattle.std.specs.Prelude.{Ok, Err}
-use Rattle.sv_answers.proofs.HeldAnswers.{release-held, same-held}
+use Rattle.sv_answers.proofs.HeldAnswers.{release-held, release-others, same-held, same-others}
 use Rattle.sv_answers.proofs.ReleaseAnswers.{release-replies}
 use Rattle.sv_answers.proofs.QuietRefusals.{exactly-quiet, release-quiet}
 use Rattle.sv_answers.proofs.families.release.Goals as goal
@@ -26,3 +26,13 @@ pub returns-in-Err-clause-held : goal.returns-in-Err-clause-held
 returns-in-Err-clause-held c =
     let x = c.in-Err.ensures in
     same-held c.args.store.now c.release.new.self c.laws.ensures.rests.stands.sound x.follows x.kept
+
+pub returns-in-Ok-clause-others : goal.returns-in-Ok-clause-others
+returns-in-Ok-clause-others c =
+    let x = c.in-Ok.ensures in
+    release-others c.args.store.now c.release.new.self c.args.name.now x.released
+
+pub returns-in-Err-clause-others : goal.returns-in-Err-clause-others
+returns-in-Err-clause-others c =
+    let x = c.in-Err.ensures in
+    same-others c.args.store.now c.release.new.self x.kept

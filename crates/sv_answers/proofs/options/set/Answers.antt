@@ -1,5 +1,5 @@
 use Rattle.std.specs.Prelude.{Ok, Err}
-use Rattle.sv_answers.proofs.HeldAnswers.{same-held, set-held}
+use Rattle.sv_answers.proofs.HeldAnswers.{same-held, same-others, set-held, set-others}
 use Rattle.sv_answers.proofs.SetAnswers.{set-replies}
 use Rattle.sv_answers.proofs.QuietRefusals.{due-quiet, set-quiet}
 use Rattle.sv_answers.proofs.options.set.Goals as goal
@@ -28,3 +28,13 @@ pub returns-in-Err-clause-held : goal.returns-in-Err-clause-held
 returns-in-Err-clause-held c =
     let x = c.in-Err.ensures in
     same-held c.args.store.now c.set.new.self c.laws.ensures.rests.stands.sound x.follows x.kept
+
+pub returns-in-Ok-clause-others : goal.returns-in-Ok-clause-others
+returns-in-Ok-clause-others c =
+    let x = c.in-Ok.ensures in
+    set-others c.args.store.now c.set.new.self c.args.name.now c.args.option c.args.value _ x.set
+
+pub returns-in-Err-clause-others : goal.returns-in-Err-clause-others
+returns-in-Err-clause-others c =
+    let x = c.in-Err.ensures in
+    same-others c.args.store.now c.set.new.self x.kept

@@ -1,7 +1,7 @@
 use Rattle.std.proofs.Common.{ap}
 use Rattle.std.specs.Prelude.{Ok, Err}
 use Rattle.sv_model.specs.Books.{Books}
-use Rattle.sv_answers.proofs.HeldAnswers.{numbers-held, same-held}
+use Rattle.sv_answers.proofs.HeldAnswers.{numbers-held, numbers-others, same-held, same-others}
 use Rattle.sv_answers.proofs.HoldAnswers.{snap-replies}
 use Rattle.sv_answers.proofs.QuietRefusals.{due-quiet, snap-quiet}
 use Rattle.sv_answers.proofs.snapshots.snap.Goals as goal
@@ -28,3 +28,13 @@ pub returns-in-Err-clause-held : goal.returns-in-Err-clause-held
 returns-in-Err-clause-held c =
     let x = c.in-Err.ensures in
     same-held c.args.store.now c.snap.new.self c.laws.ensures.rests.stands.sound x.follows x.kept
+
+pub returns-in-Ok-clause-others : goal.returns-in-Ok-clause-others
+returns-in-Ok-clause-others c =
+    let x = c.in-Ok.ensures in
+    numbers-others c.args.store.now c.snap.new.self (ap (λ (z : Books). z.files.numbers) x.made.0.is)
+
+pub returns-in-Err-clause-others : goal.returns-in-Err-clause-others
+returns-in-Err-clause-others c =
+    let x = c.in-Err.ensures in
+    same-others c.args.store.now c.snap.new.self x.kept

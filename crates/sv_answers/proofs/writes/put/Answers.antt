@@ -1,9 +1,9 @@
-use Rattle.std.proofs.Common.{length, ap}
+use Rattle.std.proofs.Common.{length, ap, refl}
 use Rattle.std.specs.Prelude.{Ok, Err}
 use Rattle.sv_model.specs.declared.writes.Op.TheVariants as op
 use Rattle.sv_script.specs.declared.commands.Command.TheVariants as command
 use Rattle.sv_script.specs.declared.replies.Reply.TheVariants as reply
-use Rattle.sv_answers.proofs.HeldAnswers.{write-held}
+use Rattle.sv_answers.proofs.HeldAnswers.{same-others, write-held, write-others}
 use Rattle.sv_answers.proofs.PutAnswers.{put-is, row-free}
 use Rattle.sv_answers.proofs.WriteAnswers.{write-answers}
 use Rattle.sv_answers.proofs.QuietRefusals.{due-quiet, row-quiet, write-quiet}
@@ -48,3 +48,16 @@ pub returns-in-Err-put-clause-held : goal.returns-in-Err-put-clause-held
 returns-in-Err-put-clause-held c =
     write-held c.args.store.now c.put.new.self c.laws.ensures.rests.stands.sound c.put.ensures.follows
     c.args.name.now (record { key = c.in-Ok.key; op = op.Put c.in-Ok.value }) (Err c.in-Err-put.refusal) c.in-Err-put.ensures.writes
+
+pub returns-in-Ok-put-clause-others : goal.returns-in-Ok-put-clause-others
+returns-in-Ok-put-clause-others c =
+    write-others c.args.store.now c.put.new.self
+    c.args.name.now (record { key = c.in-Ok.key; op = op.Put c.in-Ok.value }) (Ok c.in-Ok-put.number) c.in-Ok-put.ensures.writes
+
+pub returns-in-Err-put-clause-others : goal.returns-in-Err-put-clause-others
+returns-in-Err-put-clause-others c =
+    write-others c.args.store.now c.put.new.self
+    c.args.name.now (record { key = c.in-Ok.key; op = op.Put c.in-Ok.value }) (Err c.in-Err-put.refusal) c.in-Err-put.ensures.writes
+
+pub returns-in-Err-clause-others : goal.returns-in-Err-clause-others
+returns-in-Err-clause-others c = same-others c.args.store.now c.args.store.now refl
