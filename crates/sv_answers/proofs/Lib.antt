@@ -7,9 +7,11 @@ mod HandleLemmas
 mod HeldAnswers
 mod HoldAnswers
 mod LiveAnswers
+mod MakesAnswers
 mod MidAnswers
 mod NewlyGone
 mod PurgeAnswers
+mod PurgeNext
 mod PutAnswers
 mod QuietRefusals
 mod ReadAnswers

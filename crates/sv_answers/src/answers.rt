@@ -1,6 +1,7 @@
 // The answer of the one lane to a command.
 ghost use Rattle.std.specs.Prelude.{◌≡◌, Bool, is_some};
 ghost use Rattle.sv_state.specs.Follows.{Follows};
+ghost use Rattle.sv_replies.specs.Makes.{Makes, draws_by};
 ghost use Rattle.sv_answers.specs.Answered.{CountsReply, IsAnswered, IsHeld, KeepsHeld, KeepsOthers, LeavesOthers, TellsNoFault};
 ghost use Rattle.sv_answers.specs.Run.{AsksNone, IsRun, TellsFiles};
 
@@ -24,6 +25,7 @@ use sv_store::Store;
 fn answer_in_memory(alloc: Global, store: &mut Store, command: &Command) -> Reply
     requires { AsksNone command.now }
     ensures answered { (told : Bool) → IsAnswered told store.old.books store.new.books command.now result }
+    ensures makes { Makes store.old.books store.new.books result 0 }
     ensures quiet { TellsNoFault result }
     ensures held { KeepsHeld store.old.books store.new.books }
     ensures others { KeepsOthers store.old.books store.new.books }
@@ -57,6 +59,7 @@ fn answer_in_memory(alloc: Global, store: &mut Store, command: &Command) -> Repl
 pub fn answer<D: Dir>(alloc: Global, store: &mut Store, dir: &mut D, command: &Command) -> Reply
     requires built { IsRun command.now }
     ensures answered { IsHeld store.old.books (D.files dir.old) → IsAnswered (is_some (D.files dir.old)) store.old.books store.new.books command.now result }
+    ensures makes { Makes store.old.books store.new.books result (draws_by command.now result) }
     ensures files { TellsFiles command.now store.old.books.files store.new.books.files (record { files = D.files dir.old; later = D.files dir.new; before = D.faults dir.old; now = D.faults dir.new }) result }
     ensures faults { CountsReply result (D.faults dir.old) (D.faults dir.new) }
     ensures held { IsHeld store.old.books (D.files dir.old) → IsHeld store.new.books (D.files dir.new) }

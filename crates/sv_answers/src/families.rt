@@ -2,6 +2,7 @@
 ghost use Rattle.std.specs.Prelude.{Bool};
 ghost use Rattle.sv_script.specs.declared.commands.Command.TheVariants as command;
 ghost use Rattle.sv_state.specs.Follows.{Follows};
+ghost use Rattle.sv_replies.specs.Makes.{Makes};
 ghost use Rattle.sv_answers.specs.Answered.{IsAnswered, KeepsHeld, KeepsOthers, TellsNoFault};
 
 use sv_model::Name;
@@ -11,6 +12,7 @@ use sv_store::Store;
 /// Answers `create`.
 pub fn create(store: &mut Store, name: &Name) -> Reply
     ensures answered { (told : Bool) → IsAnswered told store.old.books store.new.books (command.Create name.now) result }
+    ensures makes { Makes store.old.books store.new.books result 0 }
     ensures quiet { TellsNoFault result }
     ensures held { KeepsHeld store.old.books store.new.books }
     ensures others { KeepsOthers store.old.books store.new.books }
@@ -26,6 +28,7 @@ pub fn create(store: &mut Store, name: &Name) -> Reply
 /// Answers `open`.
 pub fn open(store: &mut Store, name: &Name) -> Reply
     ensures answered { (told : Bool) → IsAnswered told store.old.books store.new.books (command.Open name.now) result }
+    ensures makes { Makes store.old.books store.new.books result 0 }
     ensures quiet { TellsNoFault result }
     ensures held { KeepsHeld store.old.books store.new.books }
     ensures others { KeepsOthers store.old.books store.new.books }
@@ -41,6 +44,7 @@ pub fn open(store: &mut Store, name: &Name) -> Reply
 /// Answers `release`.
 pub fn release(store: &mut Store, name: &Name) -> Reply
     ensures answered { (told : Bool) → IsAnswered told store.old.books store.new.books (command.Release name.now) result }
+    ensures makes { Makes store.old.books store.new.books result 0 }
     ensures quiet { TellsNoFault result }
     ensures held { KeepsHeld store.old.books store.new.books }
     ensures others { KeepsOthers store.old.books store.new.books }
@@ -56,6 +60,7 @@ pub fn release(store: &mut Store, name: &Name) -> Reply
 /// Answers `drop`.
 pub fn drop_family(store: &mut Store, name: &Name) -> Reply
     ensures answered { (told : Bool) → IsAnswered told store.old.books store.new.books (command.Drop name.now) result }
+    ensures makes { Makes store.old.books store.new.books result 0 }
     ensures quiet { TellsNoFault result }
     ensures held { KeepsHeld store.old.books store.new.books }
     ensures others { KeepsOthers store.old.books store.new.books }

@@ -2,6 +2,7 @@
 ghost use Rattle.std.specs.Prelude.{◌≡◌, Bool, is_some};
 ghost use Rattle.sv_script.specs.declared.commands.Command.TheVariants as command;
 ghost use Rattle.sv_state.specs.Follows.{Follows};
+ghost use Rattle.sv_replies.specs.Makes.{Makes, begins_by};
 ghost use Rattle.sv_answers.specs.Answered.{CountsReply, IsAnswered, IsHeld, LeavesOthers, TellsFlush};
 
 use sv_dir::Dir;
@@ -12,6 +13,7 @@ use sv_store::Store;
 /// Answers `flush`: the number of the file, and the range of writes that it covers.
 pub fn flush<D: Dir>(store: &mut Store, dir: &mut D, name: &Name) -> Reply
     ensures answered { (told : Bool) → IsAnswered told store.old.books store.new.books (command.Flush name.now) result }
+    ensures makes { Makes store.old.books store.new.books result (begins_by result) }
     ensures flushed { TellsFlush store.old store.new (D.files dir.old) (D.files dir.new) name.now result }
     ensures faults { CountsReply result (D.faults dir.old) (D.faults dir.new) }
     ensures held { IsHeld store.old.books (D.files dir.old) → IsHeld store.new.books (D.files dir.new) }

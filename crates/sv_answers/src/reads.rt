@@ -1,6 +1,7 @@
 // Reads: of what all writes leave, and at a snapshot.
 ghost use Rattle.std.specs.Prelude.{◌≡◌, is_some};
 ghost use Rattle.sv_script.specs.declared.commands.Command.TheVariants as command;
+ghost use Rattle.sv_replies.specs.Makes.{Makes};
 ghost use Rattle.sv_replies.specs.ReadReply.{read_reply};
 ghost use Rattle.sv_answers.specs.Answered.{CountsReply, IsAnswered, IsHeld};
 
@@ -23,6 +24,7 @@ fn reply_to(got: Got) -> Reply
 /// Answers `get`. Refused first for its key.
 pub fn get<D: Dir>(alloc: Global, store: &Store, dir: &mut D, name: &Name, key: &[u8]) -> Reply
     ensures answered { IsHeld store.now.books (D.files dir.old) → IsAnswered (is_some (D.files dir.old)) store.now.books store.now.books (command.Get name.now key.now) result }
+    ensures makes { Makes store.now.books store.now.books result 0 }
     ensures same { D.files dir.new ≡ D.files dir.old }
     ensures faults { CountsReply result (D.faults dir.old) (D.faults dir.new) }
 {
@@ -46,6 +48,7 @@ pub fn gets<D: Dir>(
     key: &[u8],
 ) -> Reply
     ensures answered { IsHeld store.now.books (D.files dir.old) → IsAnswered (is_some (D.files dir.old)) store.now.books store.now.books (command.Gets snapshot name.now key.now) result }
+    ensures makes { Makes store.now.books store.now.books result 0 }
     ensures same { D.files dir.new ≡ D.files dir.old }
     ensures faults { CountsReply result (D.faults dir.old) (D.faults dir.new) }
 {

@@ -2,6 +2,7 @@
 ghost use Rattle.std.specs.Prelude.{◌≡◌, Bool, is_some};
 ghost use Rattle.sv_script.specs.declared.commands.Command.TheVariants as command;
 ghost use Rattle.sv_state.specs.Follows.{Follows};
+ghost use Rattle.sv_replies.specs.Makes.{Makes};
 ghost use Rattle.sv_answers.specs.Answered.{CountsReply, IsAnswered, IsHeld, LeavesOthers, TellsScan};
 
 use sv_dir::Dir;
@@ -13,6 +14,7 @@ use sv_store::Store;
 /// listing.
 pub fn scan<D: Dir>(store: &mut Store, dir: &mut D) -> Reply
     ensures answered { (told : Bool) → IsAnswered told store.old.books store.new.books command.Scan result }
+    ensures makes { Makes store.old.books store.new.books result 0 }
     ensures scanned { TellsScan store.old.books.files store.new.books.files (record { files = D.files dir.old; later = D.files dir.new; before = D.faults dir.old; now = D.faults dir.new }) result }
     ensures faults { CountsReply result (D.faults dir.old) (D.faults dir.new) }
     ensures held { IsHeld store.old.books (D.files dir.old) → IsHeld store.new.books (D.files dir.new) }

@@ -3,6 +3,7 @@ ghost use Rattle.std.specs.Prelude.{◌≡◌, ◌∷◌, [], Bool, IfOk, length
 ghost use Rattle.sv_model.specs.Refusals.{Refuses, first_due, key_refusal, value_refusal};
 ghost use Rattle.sv_script.specs.declared.commands.Command.TheVariants as command;
 ghost use Rattle.sv_state.specs.Follows.{Follows};
+ghost use Rattle.sv_replies.specs.Makes.{Makes};
 ghost use Rattle.sv_answers.specs.Answered.{IsAnswered, KeepsHeld, KeepsOthers, TellsNoFault};
 
 use std::alloc::Global;
@@ -23,6 +24,7 @@ fn row_of(alloc: Global, key: &[u8], value: &[u8]) -> Result<(Key, Value), Refus
 /// Answers `put`. Refused first for its key and its value.
 pub fn put(alloc: Global, store: &mut Store, name: &Name, key: &[u8], value: &[u8]) -> Reply
     ensures answered { (told : Bool) → IsAnswered told store.old.books store.new.books (command.Put name.now key.now value.now) result }
+    ensures makes { Makes store.old.books store.new.books result 0 }
     ensures quiet { TellsNoFault result }
     ensures held { KeepsHeld store.old.books store.new.books }
     ensures others { KeepsOthers store.old.books store.new.books }
@@ -41,6 +43,7 @@ pub fn put(alloc: Global, store: &mut Store, name: &Name, key: &[u8], value: &[u
 /// Answers `delete`. Refused first for its key.
 pub fn delete(alloc: Global, store: &mut Store, name: &Name, key: &[u8]) -> Reply
     ensures answered { (told : Bool) → IsAnswered told store.old.books store.new.books (command.Delete name.now key.now) result }
+    ensures makes { Makes store.old.books store.new.books result 0 }
     ensures quiet { TellsNoFault result }
     ensures held { KeepsHeld store.old.books store.new.books }
     ensures others { KeepsOthers store.old.books store.new.books }

@@ -10,7 +10,9 @@ use Rattle.sv_script.specs.declared.commands.Command.{Command}
 use Rattle.sv_script.specs.declared.replies.Reply.{Reply}
 use Rattle.sv_script.specs.declared.scripts.Line.{Line}
 use Rattle.sv_replies.specs.Told.{AloneTold}
+use Rattle.sv_replies.specs.Makes.{Makes, MakesAll, draws_by}
 use Rattle.sv_replies.proofs.AloneTold.{alone-push}
+use Rattle.sv_replies.proofs.GrowsLaws.{makes-none, makes-push}
 use Rattle.sv_replies.specs.Known.{known_after}
 use Rattle.sv_state.specs.Follows.{Follows}
 use Rattle.sv_model.proofs.AfterLaws.{after-itself, after-through}
@@ -26,6 +28,7 @@ pub record Step (old new : Moment) (command : Command) (reply : Reply) : Type 0 
   pub told : is_some new.files ≡ is_some old.files
   pub others : LeavesOthers old.books new.books old.files new.files
   pub follows : Follows old.books new.books
+  pub makes : Makes old.books new.books reply (draws_by command reply)
 
 answered-push : (lines : List Line) (replies : List (ℕ × Reply)) (line : Line) (r : ℕ × Reply) → length lines ≡ length replies
     → answered (lines ++ line ∷ []) (replies ++ r ∷ []) ≡ answered lines replies ++ record { command = line.command; reply = r.1 } ∷ []
@@ -61,6 +64,8 @@ played-push start old new lines replies line r e played step =
       faults = subst (λ n. RoseBy n start.faults new.faults) (sym (ap dir_faults pushed ∙ total-push (λ (a : Answered). fault_by a.reply) all x))
           (rose-on (dir_faults all) (fault_by r) start.faults old.faults new.faults played.faults step.faults.rose);
       follows = follows-on start.books old.books new.books played.follows step.follows;
+      makes = subst (λ (z : List Answered). MakesAll start.books new.books z) (sym pushed)
+          (makes-push start.books old.books new.books all x step.follows.after.metas played.makes step.makes);
     }
 
 -- one line more
@@ -83,4 +88,5 @@ played-none s lines lane held sound = record {
   later = omega arith;
   faults = omega arith;
   follows = record { sound = sound; after = after-itself s.books };
+  makes = makes-none s.books;
 }

@@ -14,6 +14,7 @@ pub mod FlushLemmas
 pub mod FrozenLaws
 pub mod GetLemmas
 pub mod GetsLemmas
+pub mod GrowsLaws
 pub mod HoldLemmas
 pub mod KnowsLaws
 pub mod LearnLaws

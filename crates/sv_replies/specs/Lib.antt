@@ -14,6 +14,7 @@ pub mod Knows
 pub mod LanesFit
 pub mod Listed
 pub mod LiveLaw
+pub mod Makes
 pub mod Moments
 pub mod OpenLaw
 pub mod PinLaw

@@ -1,6 +1,6 @@
 // Laws of replies, for all books.
 ghost use Rattle.std.specs.Prelude.{◌≡◌, ◌<◌, ◌≤◌, ◌∷◌, ◌++◌, [], Bool, ℕ, List};
-ghost use Rattle.sv_model.specs.After.{After};
+ghost use Rattle.sv_model.specs.After.{After, Continues};
 ghost use Rattle.sv_model.specs.Books.{Books};
 ghost use Rattle.sv_model.specs.Lawful.{Lawful};
 ghost use Rattle.sv_model.specs.Openings.{IsOpening, opening_books};
@@ -14,6 +14,7 @@ ghost use Rattle.sv_replies.specs.FrozenActives.{ActivesAreFrozen};
 ghost use Rattle.sv_replies.specs.Known.{Known, known_after, learn};
 ghost use Rattle.sv_replies.specs.Knows.{Knows};
 ghost use Rattle.sv_replies.specs.LanesFit.{LanesFit};
+ghost use Rattle.sv_replies.specs.Makes.{Makes, MakesAll, draws_by};
 ghost use Rattle.sv_replies.specs.ReplyFits.{ReplyFits};
 ghost use Rattle.sv_replies.specs.Settings.{Setting};
 ghost use Rattle.sv_replies.specs.Told.{AloneTold, LaneTold, Told};
@@ -41,6 +42,13 @@ pub fn replies_that_go_on()
         → Answers s a b (known_after all) x.command x.reply → LaneTold s b (all ++ x ∷ []) }
     ensures alone { (s : Setting) (a b : Books) (all : List Answered) (x : Answered) → s.lanes ≡ 1 → Lawful a → Lawful b → After a b
         → AloneTold s a all → Answers s a b (known_after all) x.command x.reply → AloneTold s b (all ++ x ∷ []) }
+{}
+
+/// What was made adds up, reply by reply.
+pub fn replies_that_make()
+    ensures none { (a : Books) → MakesAll a a [] }
+    ensures push { (a m b : Books) (all : List Answered) (x : Answered) → Continues m.metas b.metas → MakesAll a m all
+        → Makes m b x.reply (draws_by x.command x.reply) → MakesAll a b (all ++ x ∷ []) }
 {}
 
 /// Where one lane is, its replies fit as those of all lanes.

@@ -7,5 +7,5 @@ mod laws;
 
 pub use laws::{
     actives_that_freeze, replies_of_one_lane, replies_that_begin, replies_that_go_on,
-    replies_that_last,
+    replies_that_last, replies_that_make,
 };

@@ -6,6 +6,8 @@ use Rattle.sv_replies.specs.Answers.{Answers}
 use Rattle.sv_answers.specs.Answered.{alone}
 use Rattle.sv_answers.proofs.QuietRefusals.{counts-quiet}
 use Rattle.sv_answers.proofs.CommandFiles.{tells-as, tells-none}
+use Rattle.sv_replies.specs.Makes.{Makes, draws_by}
+use Rattle.sv_answers.proofs.MakesAnswers.{makes-up-to}
 use Rattle.sv_answers.proofs.HeldAnswers.{read-others}
 use Rattle.sv_answers.proofs.answers.answer.Goals as goal
 
@@ -23,6 +25,7 @@ returns-in_default g c =
     record {
       files = tells-none c.args.store.now.books.files x.new.store.books.files d x.result c.args.command.now c.in_default.not-Purge c.in_default.not-Scan;
       answered = λ held. x.ensures.answered (is_some (g.D.Dir.files c.args.dir.now));
+      makes = makes-up-to c.args.store.now.books x.new.store.books x.result (draws_by c.args.command.now x.result) x.ensures.makes;
       faults = counts-quiet x.result (g.D.Dir.faults c.args.dir.now) x.ensures.quiet;
       held = x.ensures.held (g.D.Dir.files c.args.dir.now);
       told = refl;
@@ -54,6 +57,30 @@ pub returns-in-Scan-clause-files : goal.returns-in-Scan-clause-files
 returns-in-Scan-clause-files g c =
     let d : DirSeen = record { files = g.D.Dir.files c.args.dir.now; later = g.D.Dir.files c.scan.new.dir; before = g.D.Dir.faults c.args.dir.now; now = g.D.Dir.faults c.scan.new.dir } in
     tells-as c.args.store.now.books.files c.scan.new.store.books.files d c.scan.result c.args.command.now command.Scan c.in-Scan.is c.scan.ensures.scanned
+
+pub returns-in-Scan-clause-makes : goal.returns-in-Scan-clause-makes
+returns-in-Scan-clause-makes g c =
+    subst (λ (z : Command). Makes c.args.store.now.books c.scan.new.store.books c.scan.result (draws_by z c.scan.result)) (sym c.in-Scan.is) c.scan.ensures.makes
+
+pub returns-in-Flush-clause-makes : goal.returns-in-Flush-clause-makes
+returns-in-Flush-clause-makes g c =
+    subst (λ (z : Command). Makes c.args.store.now.books c.flush.new.store.books c.flush.result (draws_by z c.flush.result)) (sym c.in-Flush.is) c.flush.ensures.makes
+
+pub returns-in-Purge-clause-makes : goal.returns-in-Purge-clause-makes
+returns-in-Purge-clause-makes g c =
+    subst (λ (z : Command). Makes c.args.store.now.books c.purge.new.store.books c.purge.result (draws_by z c.purge.result)) (sym c.in-Purge.is) c.purge.ensures.makes
+
+pub returns-in-Compact-clause-makes : goal.returns-in-Compact-clause-makes
+returns-in-Compact-clause-makes g c =
+    subst (λ (z : Command). Makes c.args.store.now.books c.compact.new.store.books c.compact.result (draws_by z c.compact.result)) (sym c.in-Compact.is) c.compact.ensures.makes
+
+pub returns-in-Get-clause-makes : goal.returns-in-Get-clause-makes
+returns-in-Get-clause-makes g c =
+    subst (λ (z : Command). Makes c.args.store.now.books c.args.store.now.books c.get.result (draws_by z c.get.result)) (sym c.in-Get.is) c.get.ensures.makes
+
+pub returns-in-Gets-clause-makes : goal.returns-in-Gets-clause-makes
+returns-in-Gets-clause-makes g c =
+    subst (λ (z : Command). Makes c.args.store.now.books c.args.store.now.books c.gets.result (draws_by z c.gets.result)) (sym c.in-Gets.is) c.gets.ensures.makes
 
 pub returns-in-Get-clause-others : goal.returns-in-Get-clause-others
 returns-in-Get-clause-others g c = read-others c.args.store.now.books (g.D.Dir.files c.args.dir.now) (g.D.Dir.files c.get.new.dir) c.get.ensures.same

@@ -1,6 +1,7 @@
 use Rattle.sv_answers.proofs.ToldFiles.{compact-stop-told, compact-told}
 use Rattle.std.specs.Prelude.{Ok, Err}
 use Rattle.sv_answers.proofs.CompactAnswers.{compact-replies}
+use Rattle.sv_answers.proofs.MakesAnswers.{compact-makes, compact-refused}
 use Rattle.sv_answers.proofs.compactions.compact.Goals as goal
 
 pub returns-in-Ok-clause-answered : goal.returns-in-Ok-clause-answered
@@ -24,3 +25,11 @@ returns-in-Ok-clause-told g c =
 pub returns-in-Err-clause-told : goal.returns-in-Err-clause-told
 returns-in-Err-clause-told g c =
     compact-stop-told (g.D.Dir.files c.args.dir.now) (g.D.Dir.files c.compact.new.dir) c.args.store.now c.compact.new.self c.args.name.now c.in-Err.refusal c.in-Err.ensures.refused
+
+pub returns-in-Ok-clause-makes : goal.returns-in-Ok-clause-makes
+returns-in-Ok-clause-makes g c =
+    compact-makes c.args.store.now.books c.compact.new.self.books (g.D.Dir.files c.args.dir.now) (g.D.Dir.files c.compact.new.dir) c.args.name.now c.in-Ok.file c.in-Ok.ensures.compacted
+
+pub returns-in-Err-clause-makes : goal.returns-in-Err-clause-makes
+returns-in-Err-clause-makes g c =
+    compact-refused c.args.store.now c.compact.new.self (g.D.Dir.files c.args.dir.now) (g.D.Dir.files c.compact.new.dir) c.args.name.now c.in-Err.refusal c.in-Err.ensures.refused

@@ -1,9 +1,12 @@
-use Rattle.std.proofs.Common.{ap}
+use Rattle.std.proofs.Common.{ap, refl}
 use Rattle.std.specs.Prelude.{Ok, Err}
 use Rattle.sv_model.specs.Books.{Books}
 use Rattle.sv_answers.proofs.HeldAnswers.{numbers-held, numbers-others, same-held, same-others}
 use Rattle.sv_answers.proofs.FamilyAnswers.{create-replies}
 use Rattle.sv_answers.proofs.QuietRefusals.{create-quiet, due-quiet}
+use Rattle.sv_answers.proofs.MakesAnswers.{makes-same}
+use Rattle.sv_replies.proofs.GrowsLaws.{grows-made, makes-zero}
+use Rattle.sv_script.specs.declared.replies.Reply.TheVariants as reply
 use Rattle.sv_answers.proofs.families.create.Goals as goal
 
 pub returns-in-Ok-clause-answered : goal.returns-in-Ok-clause-answered
@@ -28,6 +31,15 @@ pub returns-in-Err-clause-held : goal.returns-in-Err-clause-held
 returns-in-Err-clause-held c =
     let x = c.in-Err.ensures in
     same-held c.args.store.now c.create.new.self c.laws.ensures.rests.stands.sound x.follows x.kept
+
+pub returns-in-Ok-clause-makes : goal.returns-in-Ok-clause-makes
+returns-in-Ok-clause-makes c =
+    makes-zero c.args.store.now.books c.create.new.self.books (reply.Create c.in-Ok.id) 0 refl refl
+    (grows-made c.args.store.now.books c.create.new.self.books _ c.in-Ok.ensures.made.1)
+
+pub returns-in-Err-clause-makes : goal.returns-in-Err-clause-makes
+returns-in-Err-clause-makes c =
+    makes-same c.args.store.now c.create.new.self (reply.Refused c.in-Err.refusal) 0 refl refl c.in-Err.ensures.kept
 
 pub returns-in-Ok-clause-others : goal.returns-in-Ok-clause-others
 returns-in-Ok-clause-others c =

@@ -1,7 +1,10 @@
+use Rattle.std.proofs.Common.{refl}
 use Rattle.std.specs.Prelude.{Ok, Err}
 use Rattle.sv_answers.proofs.HeldAnswers.{release-held, release-others, same-held, same-others}
 use Rattle.sv_answers.proofs.ReleaseAnswers.{release-replies}
 use Rattle.sv_answers.proofs.QuietRefusals.{exactly-quiet, release-quiet}
+use Rattle.sv_answers.proofs.MakesAnswers.{makes-same, release-makes}
+use Rattle.sv_script.specs.declared.replies.Reply.TheVariants as reply
 use Rattle.sv_answers.proofs.families.release.Goals as goal
 
 pub returns-in-Ok-clause-answered : goal.returns-in-Ok-clause-answered
@@ -26,6 +29,13 @@ pub returns-in-Err-clause-held : goal.returns-in-Err-clause-held
 returns-in-Err-clause-held c =
     let x = c.in-Err.ensures in
     same-held c.args.store.now c.release.new.self c.laws.ensures.rests.stands.sound x.follows x.kept
+
+pub returns-in-Ok-clause-makes : goal.returns-in-Ok-clause-makes
+returns-in-Ok-clause-makes c = release-makes c.args.store.now.books c.release.new.self.books c.args.name.now c.in-Ok.ensures.released
+
+pub returns-in-Err-clause-makes : goal.returns-in-Err-clause-makes
+returns-in-Err-clause-makes c =
+    makes-same c.args.store.now c.release.new.self (reply.Refused c.in-Err.refusal) 0 refl refl c.in-Err.ensures.kept
 
 pub returns-in-Ok-clause-others : goal.returns-in-Ok-clause-others
 returns-in-Ok-clause-others c =

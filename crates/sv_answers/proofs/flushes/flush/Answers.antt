@@ -2,6 +2,7 @@ use Rattle.sv_answers.proofs.ToldFiles.{flush-stop-told, flush-told}
 use Rattle.std.proofs.Common.{refl}
 use Rattle.std.specs.Prelude.{Ok, Err}
 use Rattle.sv_answers.proofs.FlushAnswers.{flush-replies}
+use Rattle.sv_answers.proofs.MakesAnswers.{flush-makes, flush-refused}
 use Rattle.sv_answers.proofs.flushes.flush.Goals as goal
 
 pub returns-in-Ok-clause-answered : goal.returns-in-Ok-clause-answered
@@ -27,3 +28,11 @@ returns-in-Err-clause-told g c =
 pub returns-in-Ok-clause-flushed : goal.returns-in-Ok-clause-flushed
 returns-in-Ok-clause-flushed g c =
     record { file = c.in-Ok.file; flushes = c.in-Ok.ensures.flushed; number_is = refl; from_is = refl; to_is = refl }
+
+pub returns-in-Ok-clause-makes : goal.returns-in-Ok-clause-makes
+returns-in-Ok-clause-makes g c =
+    flush-makes c.args.store.now.books c.flush.new.self.books (g.D.Dir.files c.args.dir.now) (g.D.Dir.files c.flush.new.dir) c.args.name.now c.in-Ok.file c.in-Ok.ensures.flushed
+
+pub returns-in-Err-clause-makes : goal.returns-in-Err-clause-makes
+returns-in-Err-clause-makes g c =
+    flush-refused c.args.store.now c.flush.new.self (g.D.Dir.files c.args.dir.now) (g.D.Dir.files c.flush.new.dir) c.args.name.now c.in-Err.refusal c.in-Err.ensures.refused

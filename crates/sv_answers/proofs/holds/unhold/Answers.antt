@@ -1,9 +1,11 @@
-use Rattle.std.proofs.Common.{ap}
+use Rattle.std.proofs.Common.{ap, refl}
 use Rattle.std.specs.Prelude.{Ok, Err}
 use Rattle.sv_model.specs.Books.{FileRegister}
 use Rattle.sv_answers.proofs.HeldAnswers.{numbers-held, numbers-others, same-held, same-others}
 use Rattle.sv_answers.proofs.HoldAnswers.{unhold-replies}
 use Rattle.sv_answers.proofs.QuietRefusals.{exactly-quiet, unhold-quiet}
+use Rattle.sv_answers.proofs.MakesAnswers.{makes-files, makes-same}
+use Rattle.sv_script.specs.declared.replies.Reply.TheVariants as reply
 use Rattle.sv_answers.proofs.holds.unhold.Goals as goal
 
 pub returns-in-Ok-clause-answered : goal.returns-in-Ok-clause-answered
@@ -28,6 +30,14 @@ pub returns-in-Err-clause-held : goal.returns-in-Err-clause-held
 returns-in-Err-clause-held c =
     let x = c.in-Err.ensures in
     same-held c.args.store.now c.unhold.new.self c.laws.ensures.rests.stands.sound x.follows x.kept
+
+pub returns-in-Ok-clause-makes : goal.returns-in-Ok-clause-makes
+returns-in-Ok-clause-makes c =
+    makes-files c.args.store.now c.unhold.new.self (reply.Unhold c.in-Ok.count) refl refl c.in-Ok.ensures.rest (ap (λ (z : FileRegister). z.next) c.in-Ok.ensures.ended.1)
+
+pub returns-in-Err-clause-makes : goal.returns-in-Err-clause-makes
+returns-in-Err-clause-makes c =
+    makes-same c.args.store.now c.unhold.new.self (reply.Refused c.in-Err.refusal) 0 refl refl c.in-Err.ensures.kept
 
 pub returns-in-Ok-clause-others : goal.returns-in-Ok-clause-others
 returns-in-Ok-clause-others c =

@@ -1,4 +1,4 @@
-use Rattle.std.proofs.Common.{subst, sym}
+use Rattle.std.proofs.Common.{subst, sym, refl}
 use Rattle.sv_model.specs.Numbers.{AreInOrder}
 use Rattle.sv_store.specs.LiveFiles.{IsCurrentFile}
 use Rattle.sv_store.specs.Seen.{StoreSeen}
@@ -8,6 +8,7 @@ use Rattle.sv_replies.specs.Answers.{Answers}
 use Rattle.sv_answers.specs.Answered.{alone}
 use Rattle.sv_answers.proofs.LiveAnswers.{live-refused, live-shown}
 use Rattle.sv_answers.proofs.QuietRefusals.{due-quiet, unhold-quiet}
+use Rattle.sv_answers.proofs.MakesAnswers.{makes-same}
 use Rattle.sv_answers.proofs.listings.live.Goals as goal
 
 pub returns-in-Ok-clause-answered : goal.returns-in-Ok-clause-answered
@@ -26,3 +27,10 @@ returns-in-Err-clause-answered c told k all =
 
 pub returns-in-Err-clause-quiet : goal.returns-in-Err-clause-quiet
 returns-in-Err-clause-quiet c = due-quiet _ (unhold-quiet _) c.in-Err.refusal c.in-Err.ensures.refused
+
+pub returns-in-Ok-clause-makes : goal.returns-in-Ok-clause-makes
+returns-in-Ok-clause-makes c = makes-same c.args.store.now c.live.new.self (reply.Live c.from_vec.result) 0 refl refl c.in-Ok.ensures.kept
+
+pub returns-in-Err-clause-makes : goal.returns-in-Err-clause-makes
+returns-in-Err-clause-makes c =
+    makes-same c.args.store.now c.live.new.self (reply.Refused c.in-Err.refusal) 0 refl refl c.in-Err.ensures.kept

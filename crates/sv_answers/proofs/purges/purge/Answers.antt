@@ -1,9 +1,12 @@
 use Rattle.sv_answers.proofs.ToldFiles.{purge-stop-told, purge-told}
-use Rattle.std.proofs.Common.{List, ℕ, sym, subst}
+use Rattle.std.proofs.Common.{List, ℕ, sym, subst, refl}
 use Rattle.std.specs.Prelude.{Ok, Err}
 use Rattle.sv_store.specs.Purging.{Purges}
 use Rattle.sv_store.proofs.RemovalSteps.{dir_seen}
 use Rattle.sv_answers.proofs.PurgeAnswers.{purge-counts, purge-replies}
+use Rattle.sv_answers.proofs.MakesAnswers.{makes-files}
+use Rattle.sv_answers.proofs.PurgeNext.{purge-next, purge-stop-next}
+use Rattle.sv_script.specs.declared.replies.Reply.TheVariants as reply
 use Rattle.sv_answers.proofs.purges.purge.Goals as goal
 
 pub returns-in-Ok-clause-answered : goal.returns-in-Ok-clause-answered
@@ -49,3 +52,17 @@ pub returns-in-Err-clause-told : goal.returns-in-Err-clause-told
 returns-in-Err-clause-told g c =
     let d = dir_seen (g.D.Dir.files c.args.dir.now) (g.D.Dir.files c.purge.new.dir) (g.D.Dir.faults c.args.dir.now) (g.D.Dir.faults c.purge.new.dir) in
     purge-stop-told c.args.store.now.books.files c.purge.new.self.books.files d c.in-Err.refusal c.in-Err.ensures.stops
+
+pub returns-in-Ok-clause-makes : goal.returns-in-Ok-clause-makes
+returns-in-Ok-clause-makes g c =
+    let x = c.in-Ok.ensures in
+    let d = dir_seen (g.D.Dir.files c.args.dir.now) (g.D.Dir.files c.purge.new.dir) (g.D.Dir.faults c.args.dir.now) (g.D.Dir.faults c.purge.new.dir) in
+    makes-files c.args.store.now c.purge.new.self (reply.Purge c.from_vec.result) refl refl x.rest
+    (purge-next c.args.store.now.books.files c.purge.new.self.books.files d c.in-Ok.numbers.items x.purged)
+
+pub returns-in-Err-clause-makes : goal.returns-in-Err-clause-makes
+returns-in-Err-clause-makes g c =
+    let x = c.in-Err.ensures in
+    let d = dir_seen (g.D.Dir.files c.args.dir.now) (g.D.Dir.files c.purge.new.dir) (g.D.Dir.faults c.args.dir.now) (g.D.Dir.faults c.purge.new.dir) in
+    makes-files c.args.store.now c.purge.new.self (reply.Refused c.in-Err.refusal) refl refl x.rest
+    (purge-stop-next c.args.store.now.books.files c.purge.new.self.books.files d c.in-Err.refusal x.stops)

@@ -6,6 +6,9 @@ use Rattle.sv_replies.specs.Due.{handle_cause}
 use Rattle.sv_answers.specs.Answered.{alone}
 use Rattle.sv_answers.proofs.GetsAnswers.{gets-replies}
 use Rattle.sv_answers.proofs.ReadAnswers.{key-replies}
+use Rattle.sv_answers.proofs.MakesAnswers.{makes-read, makes-refused}
+use Rattle.sv_script.specs.declared.replies.Reply.{Reply}
+use Rattle.sv_replies.specs.Makes.{Makes}
 use Rattle.sv_answers.proofs.reads.gets.Goals as goal
 
 pub returns-in-Ok-gets-clause-answered : goal.returns-in-Ok-gets-clause-answered
@@ -26,3 +29,15 @@ pub returns-clause-answered : goal.returns-clause-answered
 returns-clause-answered g c held k all =
     key-replies (is_some (g.D.Dir.files c.args.dir.now)) c.args.store.now.books k (command.Gets c.args.snapshot c.args.name.now c.args.key.now) c.args.key.now (handle_cause k c.args.name.now ∷ [])
     c.in-Err.refusal all refl tt c.in-Err.ensures.refused
+
+pub returns-in-Ok-gets-clause-makes : goal.returns-in-Ok-gets-clause-makes
+returns-in-Ok-gets-clause-makes g c =
+    let b = c.args.store.now.books in
+    let got = c.in-Ok-gets.got in
+    subst (λ (r : Reply). Makes b b r 0) (sym c.reply_to.ensures) (makes-read b got.value got.cut got.sv)
+
+pub returns-in-Ok-clause-makes : goal.returns-in-Ok-clause-makes
+returns-in-Ok-clause-makes g c = makes-refused c.args.store.now.books c.in-Err-gets.refusal
+
+pub returns-clause-makes : goal.returns-clause-makes
+returns-clause-makes g c = makes-refused c.args.store.now.books c.in-Err.refusal

@@ -1,9 +1,12 @@
-use Rattle.std.proofs.Common.{ap}
+use Rattle.std.proofs.Common.{ap, refl}
 use Rattle.std.specs.Prelude.{Ok, Err}
 use Rattle.sv_model.specs.Books.{Books}
 use Rattle.sv_answers.proofs.HeldAnswers.{numbers-held, numbers-others, same-held, same-others}
 use Rattle.sv_answers.proofs.HoldAnswers.{snap-replies}
 use Rattle.sv_answers.proofs.QuietRefusals.{due-quiet, snap-quiet}
+use Rattle.sv_answers.proofs.MakesAnswers.{makes-same}
+use Rattle.sv_replies.proofs.GrowsLaws.{grows-rest, makes-zero}
+use Rattle.sv_script.specs.declared.replies.Reply.TheVariants as reply
 use Rattle.sv_answers.proofs.snapshots.snap.Goals as goal
 
 pub returns-in-Ok-clause-answered : goal.returns-in-Ok-clause-answered
@@ -28,6 +31,17 @@ pub returns-in-Err-clause-held : goal.returns-in-Err-clause-held
 returns-in-Err-clause-held c =
     let x = c.in-Err.ensures in
     same-held c.args.store.now c.snap.new.self c.laws.ensures.rests.stands.sound x.follows x.kept
+
+pub returns-in-Ok-clause-makes : goal.returns-in-Ok-clause-makes
+returns-in-Ok-clause-makes c =
+    let is = c.in-Ok.ensures.made.0.is in
+    makes-zero c.args.store.now.books c.snap.new.self.books (reply.Snap c.in-Ok.snapshot c.in-Ok.at) 0 refl refl
+    (grows-rest c.args.store.now.books c.snap.new.self.books (ap (λ (z : Books). z.supers) is) (ap (λ (z : Books). z.memtables) is)
+    (ap (λ (z : Books). z.metas) is) (ap (λ (z : Books). z.files.next) is))
+
+pub returns-in-Err-clause-makes : goal.returns-in-Err-clause-makes
+returns-in-Err-clause-makes c =
+    makes-same c.args.store.now c.snap.new.self (reply.Refused c.in-Err.refusal) 0 refl refl c.in-Err.ensures.kept
 
 pub returns-in-Ok-clause-others : goal.returns-in-Ok-clause-others
 returns-in-Ok-clause-others c =

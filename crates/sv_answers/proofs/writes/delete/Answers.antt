@@ -7,6 +7,8 @@ use Rattle.sv_answers.proofs.HeldAnswers.{same-others, write-held, write-others}
 use Rattle.sv_answers.proofs.PutAnswers.{delete-is}
 use Rattle.sv_answers.proofs.WriteAnswers.{write-answers}
 use Rattle.sv_answers.proofs.QuietRefusals.{due-quiet, key-quiet, write-quiet}
+use Rattle.sv_answers.proofs.MakesAnswers.{accepted-grows, makes-refused, refused-grows}
+use Rattle.sv_replies.proofs.GrowsLaws.{makes-zero}
 use Rattle.sv_answers.proofs.writes.delete.Goals as goal
 
 pub returns-in-Ok-delete-clause-answered : goal.returns-in-Ok-delete-clause-answered
@@ -42,6 +44,19 @@ pub returns-in-Err-delete-clause-held : goal.returns-in-Err-delete-clause-held
 returns-in-Err-delete-clause-held c =
     write-held c.args.store.now c.delete.new.self c.laws.ensures.rests.stands.sound c.delete.ensures.follows
     c.args.name.now (record { key = c.in-Ok.key; op = op.Delete }) (Err c.in-Err-delete.refusal) c.in-Err-delete.ensures.writes
+
+pub returns-in-Ok-delete-clause-makes : goal.returns-in-Ok-delete-clause-makes
+returns-in-Ok-delete-clause-makes c =
+    makes-zero c.args.store.now.books c.delete.new.self.books (reply.Delete c.in-Ok-delete.number) 0 refl refl
+    (accepted-grows c.args.store.now c.delete.new.self c.args.name.now (record { key = c.in-Ok.key; op = op.Delete }) c.in-Ok-delete.number c.in-Ok-delete.ensures.writes)
+
+pub returns-in-Err-delete-clause-makes : goal.returns-in-Err-delete-clause-makes
+returns-in-Err-delete-clause-makes c =
+    makes-zero c.args.store.now.books c.delete.new.self.books (reply.Refused c.in-Err-delete.refusal) 0 refl refl
+    (refused-grows c.args.store.now c.delete.new.self c.args.name.now (record { key = c.in-Ok.key; op = op.Delete }) c.in-Err-delete.refusal c.in-Err-delete.ensures.writes)
+
+pub returns-in-Err-clause-makes : goal.returns-in-Err-clause-makes
+returns-in-Err-clause-makes c = makes-refused c.args.store.now.books c.in-Err.refusal
 
 pub returns-in-Ok-delete-clause-others : goal.returns-in-Ok-delete-clause-others
 returns-in-Ok-delete-clause-others c =

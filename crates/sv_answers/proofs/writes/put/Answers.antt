@@ -7,6 +7,8 @@ use Rattle.sv_answers.proofs.HeldAnswers.{same-others, write-held, write-others}
 use Rattle.sv_answers.proofs.PutAnswers.{put-is, row-free}
 use Rattle.sv_answers.proofs.WriteAnswers.{write-answers}
 use Rattle.sv_answers.proofs.QuietRefusals.{due-quiet, row-quiet, write-quiet}
+use Rattle.sv_answers.proofs.MakesAnswers.{accepted-grows, makes-refused, refused-grows}
+use Rattle.sv_replies.proofs.GrowsLaws.{makes-zero}
 use Rattle.sv_answers.proofs.writes.put.Goals as goal
 
 pub returns-in-Ok-put-clause-answered : goal.returns-in-Ok-put-clause-answered
@@ -48,6 +50,19 @@ pub returns-in-Err-put-clause-held : goal.returns-in-Err-put-clause-held
 returns-in-Err-put-clause-held c =
     write-held c.args.store.now c.put.new.self c.laws.ensures.rests.stands.sound c.put.ensures.follows
     c.args.name.now (record { key = c.in-Ok.key; op = op.Put c.in-Ok.value }) (Err c.in-Err-put.refusal) c.in-Err-put.ensures.writes
+
+pub returns-in-Ok-put-clause-makes : goal.returns-in-Ok-put-clause-makes
+returns-in-Ok-put-clause-makes c =
+    makes-zero c.args.store.now.books c.put.new.self.books (reply.Put c.in-Ok-put.number) 0 refl refl
+    (accepted-grows c.args.store.now c.put.new.self c.args.name.now (record { key = c.in-Ok.key; op = op.Put c.in-Ok.value }) c.in-Ok-put.number c.in-Ok-put.ensures.writes)
+
+pub returns-in-Err-put-clause-makes : goal.returns-in-Err-put-clause-makes
+returns-in-Err-put-clause-makes c =
+    makes-zero c.args.store.now.books c.put.new.self.books (reply.Refused c.in-Err-put.refusal) 0 refl refl
+    (refused-grows c.args.store.now c.put.new.self c.args.name.now (record { key = c.in-Ok.key; op = op.Put c.in-Ok.value }) c.in-Err-put.refusal c.in-Err-put.ensures.writes)
+
+pub returns-in-Err-clause-makes : goal.returns-in-Err-clause-makes
+returns-in-Err-clause-makes c = makes-refused c.args.store.now.books c.in-Err.refusal
 
 pub returns-in-Ok-put-clause-others : goal.returns-in-Ok-put-clause-others
 returns-in-Ok-put-clause-others c =
