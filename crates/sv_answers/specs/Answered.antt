@@ -5,7 +5,7 @@ use Rattle.sv_model.specs.Books.{Books, FileRegister}
 use Rattle.sv_model.specs.Faults.{RoseBy}
 use Rattle.sv_model.specs.Files.{Files}
 use Rattle.sv_store.specs.Flushing.{FlushRefused, Flushes}
-pub use Rattle.sv_store.specs.HeldFiles.{IsHeld, KeepsHeld, LeavesOthers}
+pub use Rattle.sv_store.specs.HeldFiles.{IsHeld, KeepsHeld, KeepsOthers, LeavesOthers}
 use Rattle.sv_store.specs.Purging.{PurgeStops, Purges}
 use Rattle.sv_store.specs.Removals.{DirSeen}
 use Rattle.sv_store.specs.Scanning.{ScanStops, Scans}

@@ -3,7 +3,7 @@ ghost use Rattle.std.specs.Prelude.{◌≡◌, Bool, is_some};
 ghost use Rattle.sv_script.specs.Built.{IsBuilt};
 ghost use Rattle.sv_state.specs.Follows.{Follows};
 ghost use Rattle.sv_replies.specs.Makes.{Makes, draws_by};
-ghost use Rattle.sv_answers.specs.Answered.{CountsReply, IsAnswered, IsHeld, KeepsHeld, TellsNoFault};
+ghost use Rattle.sv_answers.specs.Answered.{CountsReply, IsAnswered, IsHeld, KeepsHeld, KeepsOthers, LeavesOthers, TellsNoFault};
 ghost use Rattle.sv_answers.specs.Run.{AsksNone, TellsFiles};
 
 use crate::compactions::compact;
@@ -29,6 +29,7 @@ fn answer_in_memory(alloc: Global, store: &mut Store, command: &Command) -> Repl
     ensures makes { Makes store.old.books store.new.books result 0 }
     ensures quiet { TellsNoFault result }
     ensures held { KeepsHeld store.old.books store.new.books }
+    ensures others { KeepsOthers store.old.books store.new.books }
     ensures follows { Follows store.old.books store.new.books }
 {
     store.laws();
@@ -64,6 +65,7 @@ pub fn answer<D: Dir>(alloc: Global, store: &mut Store, dir: &mut D, command: &C
     ensures faults { CountsReply result (D.faults dir.old) (D.faults dir.new) }
     ensures held { IsHeld store.old.books (D.files dir.old) → IsHeld store.new.books (D.files dir.new) }
     ensures told { is_some (D.files dir.new) ≡ is_some (D.files dir.old) }
+    ensures others { LeavesOthers store.old.books store.new.books (D.files dir.old) (D.files dir.new) }
     ensures follows { Follows store.old.books store.new.books }
 {
     store.laws();

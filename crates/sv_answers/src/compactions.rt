@@ -3,7 +3,7 @@ ghost use Rattle.std.specs.Prelude.{◌≡◌, is_some};
 ghost use Rattle.sv_script.specs.declared.commands.Command.TheVariants as command;
 ghost use Rattle.sv_state.specs.Follows.{Follows};
 ghost use Rattle.sv_replies.specs.Makes.{Makes, begins_by};
-ghost use Rattle.sv_answers.specs.Answered.{CountsReply, IsAnswered, IsHeld};
+ghost use Rattle.sv_answers.specs.Answered.{CountsReply, IsAnswered, IsHeld, LeavesOthers};
 
 use sv_dir::Dir;
 use sv_model::Name;
@@ -17,6 +17,7 @@ pub fn compact<D: Dir>(store: &mut Store, dir: &mut D, name: &Name) -> Reply
     ensures faults { CountsReply result (D.faults dir.old) (D.faults dir.new) }
     ensures held { IsHeld store.old.books (D.files dir.old) → IsHeld store.new.books (D.files dir.new) }
     ensures told { is_some (D.files dir.new) ≡ is_some (D.files dir.old) }
+    ensures others { LeavesOthers store.old.books store.new.books (D.files dir.old) (D.files dir.new) }
     ensures follows { Follows store.old.books store.new.books }
 {
     store.laws();

@@ -3,7 +3,7 @@ ghost use Rattle.std.specs.Prelude.{Bool};
 ghost use Rattle.sv_script.specs.declared.commands.Command.TheVariants as command;
 ghost use Rattle.sv_state.specs.Follows.{Follows};
 ghost use Rattle.sv_replies.specs.Makes.{Makes};
-ghost use Rattle.sv_answers.specs.Answered.{IsAnswered, KeepsHeld, TellsNoFault};
+ghost use Rattle.sv_answers.specs.Answered.{IsAnswered, KeepsHeld, KeepsOthers, TellsNoFault};
 
 use sv_model::{Name, OptionName};
 use sv_script::Reply;
@@ -15,6 +15,7 @@ pub fn set(store: &mut Store, name: &Name, option: OptionName, value: u64) -> Re
     ensures makes { Makes store.old.books store.new.books result 0 }
     ensures quiet { TellsNoFault result }
     ensures held { KeepsHeld store.old.books store.new.books }
+    ensures others { KeepsOthers store.old.books store.new.books }
     ensures follows { Follows store.old.books store.new.books }
 {
     store.laws();

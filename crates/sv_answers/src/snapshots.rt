@@ -3,7 +3,7 @@ ghost use Rattle.std.specs.Prelude.{Bool};
 ghost use Rattle.sv_script.specs.declared.commands.Command.TheVariants as command;
 ghost use Rattle.sv_state.specs.Follows.{Follows};
 ghost use Rattle.sv_replies.specs.Makes.{Makes};
-ghost use Rattle.sv_answers.specs.Answered.{IsAnswered, KeepsHeld, TellsNoFault};
+ghost use Rattle.sv_answers.specs.Answered.{IsAnswered, KeepsHeld, KeepsOthers, TellsNoFault};
 
 use sv_script::Reply;
 use sv_store::Store;
@@ -14,6 +14,7 @@ pub fn snap(store: &mut Store) -> Reply
     ensures makes { Makes store.old.books store.new.books result 0 }
     ensures quiet { TellsNoFault result }
     ensures held { KeepsHeld store.old.books store.new.books }
+    ensures others { KeepsOthers store.old.books store.new.books }
     ensures follows { Follows store.old.books store.new.books }
 {
     store.laws();
@@ -29,6 +30,7 @@ pub fn unsnap(store: &mut Store, snapshot: u64) -> Reply
     ensures makes { Makes store.old.books store.new.books result 0 }
     ensures quiet { TellsNoFault result }
     ensures held { KeepsHeld store.old.books store.new.books }
+    ensures others { KeepsOthers store.old.books store.new.books }
     ensures follows { Follows store.old.books store.new.books }
 {
     store.laws();

@@ -4,7 +4,7 @@ ghost use Rattle.sv_model.specs.Refusals.{Refuses, first_due, key_refusal, value
 ghost use Rattle.sv_script.specs.declared.commands.Command.TheVariants as command;
 ghost use Rattle.sv_state.specs.Follows.{Follows};
 ghost use Rattle.sv_replies.specs.Makes.{Makes};
-ghost use Rattle.sv_answers.specs.Answered.{IsAnswered, KeepsHeld, TellsNoFault};
+ghost use Rattle.sv_answers.specs.Answered.{IsAnswered, KeepsHeld, KeepsOthers, TellsNoFault};
 
 use std::alloc::Global;
 use sv_model::{Key, Name, Refusal, Value};
@@ -27,6 +27,7 @@ pub fn put(alloc: Global, store: &mut Store, name: &Name, key: &[u8], value: &[u
     ensures makes { Makes store.old.books store.new.books result 0 }
     ensures quiet { TellsNoFault result }
     ensures held { KeepsHeld store.old.books store.new.books }
+    ensures others { KeepsOthers store.old.books store.new.books }
     ensures follows { Follows store.old.books store.new.books }
 {
     store.laws();
@@ -45,6 +46,7 @@ pub fn delete(alloc: Global, store: &mut Store, name: &Name, key: &[u8]) -> Repl
     ensures makes { Makes store.old.books store.new.books result 0 }
     ensures quiet { TellsNoFault result }
     ensures held { KeepsHeld store.old.books store.new.books }
+    ensures others { KeepsOthers store.old.books store.new.books }
     ensures follows { Follows store.old.books store.new.books }
 {
     store.laws();

@@ -16,7 +16,8 @@ use Rattle.sv_replies.proofs.GrowsLaws.{makes-none, makes-push}
 use Rattle.sv_replies.specs.Known.{known_after}
 use Rattle.sv_state.specs.Follows.{Follows}
 use Rattle.sv_model.proofs.AfterLaws.{after-itself, after-through}
-use Rattle.sv_answers.specs.Answered.{CountsReply, IsAnswered, IsHeld, alone}
+use Rattle.sv_store.proofs.AbsentFiles.{leaves-through, same-leaves}
+use Rattle.sv_answers.specs.Answered.{CountsReply, IsAnswered, IsHeld, LeavesOthers, alone}
 use Rattle.sv_lane.specs.Played.{Moment, Played}
 
 -- what one command does
@@ -25,6 +26,7 @@ pub record Step (old new : Moment) (command : Command) (reply : Reply) : Type 0 
   pub faults : CountsReply reply old.faults new.faults
   pub held : IsHeld old.books old.files → IsHeld new.books new.files
   pub told : is_some new.files ≡ is_some old.files
+  pub others : LeavesOthers old.books new.books old.files new.files
   pub follows : Follows old.books new.books
   pub makes : Makes old.books new.books reply (draws_by command reply)
 
@@ -57,6 +59,7 @@ played-push start old new lines replies line r e played step =
           (reply (known_after all) played.lane.lane.known));
       told = step.told ∙ played.told;
       held = step.held played.held;
+      others = leaves-through start.books old.books new.books step.follows.after start.files old.files new.files played.others step.others;
       later = omega (arith, played.later, step.faults.later);
       faults = subst (λ n. RoseBy n start.faults new.faults) (sym (ap dir_faults pushed ∙ total-push (λ (a : Answered). fault_by a.reply) all x))
           (rose-on (dir_faults all) (fault_by r) start.faults old.faults new.faults played.faults step.faults.rose);
@@ -81,6 +84,7 @@ played-none s lines lane held sound = record {
   lane = lane;
   told = refl;
   held = held;
+  others = same-leaves s.books s.books (λ n has. has) s.files;
   later = omega arith;
   faults = omega arith;
   follows = record { sound = sound; after = after-itself s.books };

@@ -5,6 +5,7 @@ use Rattle.sv_model.specs.declared.records.FileMeta.{FileMeta}
 use Rattle.sv_model.specs.declared.records.FileStatus.{FileStatus}
 use Rattle.sv_model.specs.declared.records.FileStatus.TheVariants.{Gone, Pending}
 use Rattle.sv_model.specs.declared.records.RegisteredFile.{RegisteredFile}
+use Rattle.sv_model.specs.After.{After}
 use Rattle.sv_model.specs.Books.{Books}
 use Rattle.sv_model.specs.Files.{Files, file_name, file_of, with_file}
 use Rattle.sv_model.specs.HeldFiles.{GoneAreAbsent}
@@ -101,6 +102,24 @@ same-leaves a b none told = record { absent = keeps-absent a b none told; stay =
 -- as before, and then no file changed
 pub leaves-after : (a m b : Books) → NoneBecome Gone a m → (told now : Option Files) → LeavesOthers m b told now → LeavesOthers a b told now
 leaves-after a m b none told now h = record { absent = λ was. h.absent (keeps-absent a m none told was); stay = h.stay }
+
+-- ---- one after the other
+
+stay-through : (m b : Books) → After m b → (first then last : Option Files) → StayIfTold m first then → StayIfTold b then last → StayIfTold b first last
+stay-through m b after None None None h k = tt
+stay-through m b after None None (Some last) h k = absurd k
+stay-through m b after None (Some then) last h k = absurd h
+stay-through m b after (Some first) None last h k = absurd h
+stay-through m b after (Some first) (Some then) None h k = absurd k
+stay-through m b after (Some first) (Some then) (Some last) h k = λ name apart.
+    k name apart
+    ∙ h name (λ n x at is. let y = after.numbers n x at in apart n y.0 y.1 (ap file_name y.2.number ∙ is))
+
+pub leaves-through : (a m b : Books) → After m b → (first then last : Option Files) → LeavesOthers a m first then → LeavesOthers m b then last → LeavesOthers a b first last
+leaves-through a m b after first then last h k = record {
+  absent = λ was. k.absent (h.absent was);
+  stay = stay-through m b after first then last h.stay k.stay;
+}
 
 -- ---- an output
 

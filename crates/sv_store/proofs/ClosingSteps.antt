@@ -2,8 +2,8 @@
 use Rattle.std.proofs.Common.{◌≡◌, ◌≢◌, ◌<◌, ◌+◌, ◌⊎◌, ⊎_elim, ℕ, Bool, true, false, Option, Some, None, length, refl, sym, ap, ◌∙◌, subst, arith}
 use Rattle.std.specs.Prelude.{slice_get}
 use Rattle.sv_model.specs.declared.records.Family.{Family}
-use Rattle.sv_model.specs.declared.records.FileStatus.TheVariants.{Gone}
-use Rattle.sv_model.specs.declared.records.RegisteredFile.{RegisteredFile}
+use Rattle.sv_model.specs.declared.records.FileStatus.{FileStatus}
+use Rattle.sv_model.specs.declared.records.FileStatus.TheVariants.{Gone, Live, Obsolete}
 use Rattle.sv_model.specs.declared.records.SuperVersion.{SuperVersion}
 use Rattle.sv_model.specs.declared.records.Top.{Top}
 use Rattle.sv_model.specs.declared.sv_refs.SvRef.{SvRef}
@@ -15,8 +15,7 @@ use Rattle.sv_model.proofs.Entries.{some}
 use Rattle.sv_model.proofs.Registers.{length-change}
 use Rattle.sv_laws.specs.Cleaning.{IsCleaned, without}
 use Rattle.sv_laws.specs.Growing.{IsPlaced}
-use Rattle.sv_laws.proofs.Apart.{obsolete_gone}
-use Rattle.sv_laws.proofs.Registers.{goes-back}
+use Rattle.sv_laws.proofs.Apart.{live_obsolete, obsolete_gone}
 use Rattle.sv_objects.specs.declared.bodies.Body.{Body}
 use Rattle.sv_state.specs.Currents.{HasCurrentAt}
 use Rattle.sv_state.specs.declared.installs.Install.{Install}
@@ -26,22 +25,16 @@ use Rattle.sv_store.specs.Closing.{LetsGo}
 use Rattle.sv_store.specs.Ending.{EndsCurrent, EndsCurrents, IsKept, IsLetGo, LetsFamilyGo, LosesCurrent, MakesNothing, MayReclaim}
 use Rattle.sv_store.specs.Standing.{HaveCurrents, IsAlone, IsStill}
 use Rattle.sv_store.proofs.EndedCurrents.{gone-alone, lost-free, ref}
+use Rattle.sv_store.proofs.HeldLaws.{none-cleaned}
 use Rattle.sv_store.proofs.StillLaws.{cleaned-still}
 
 -- ---- one family
 
 module _ (a m b : Books) (f : ℕ) (w : LosesCurrent a m f) (l : LetsFamilyGo a m f) (x : SuperVersion) (g : IsCleaned m b w.s x) where
-  -- no number becomes Gone by a cleanup
-  gone : (n : ℕ) → IsRegistered b.files.numbers n Gone → IsRegistered a.files.numbers n Gone
-  gone n r =
-      let back = goes-back _ m.files.numbers b.files.numbers g.numbers.goes g.numbers.long r.0 r.1 r.2 in
-      ⊎_elim
-      (λ t.
-      let same : r.1 ≡ back.0 = t.0 in
-      subst (λ (z : Books). IsRegistered z.files.numbers n Gone) w.is
-      (r.0, back.0, back.1, record { number_is = ap (λ (z : RegisteredFile). z.number) (sym same) ∙ r.3.number_is; status_is = ap (λ (z : RegisteredFile). z.status) (sym same) ∙ r.3.status_is }))
-      (λ t. obsolete_gone (ap (λ (z : RegisteredFile). z.status) (sym t.0) ∙ r.3.status_is))
-      back.2
+  -- no number gets another status than Obsolete by a cleanup
+  stays-so : (t : FileStatus) → (t ≡ Obsolete → ⊥) → (n : ℕ) → IsRegistered b.files.numbers n t → IsRegistered a.files.numbers n t
+  stays-so t other n r =
+      subst (λ (z : Books). IsRegistered z.files.numbers n t) w.is (none-cleaned t other m b w.s x g n r)
 
   makes : MakesNothing a b
   makes = record {
@@ -50,7 +43,8 @@ module _ (a m b : Books) (f : ℕ) (w : LosesCurrent a m f) (l : LetsFamilyGo a 
     lists = g.lists.long ∙ ap (λ (z : Books). length z.lists) w.is;
     versions = g.versions.long ∙ ap (λ (z : Books). length z.versions) w.is;
     numbers = g.numbers.long ∙ ap (λ (z : Books). length z.files.numbers) w.is;
-    gone = gone;
+    gone = stays-so Gone (λ q. obsolete_gone (sym q));
+    lives = stays-so Live (λ q. live_obsolete q);
     is = subst (λ (z : Books). z ≡ record a {
       supers = z.supers;
       memtables = z.memtables;
@@ -107,7 +101,7 @@ module _ (a m : Books) (sound : Sound a) (f : ℕ) (w : LosesCurrent a m f) (ins
 -- ---- nothing is made
 
 pub makes-none : (a : Books) → MakesNothing a a
-makes-none a = record { supers = refl; memtables = refl; lists = refl; versions = refl; numbers = refl; gone = λ n r. r; is = refl }
+makes-none a = record { supers = refl; memtables = refl; lists = refl; versions = refl; numbers = refl; gone = λ n r. r; lives = λ n r. r; is = refl }
 
 makes-through : (a m b : Books) → MakesNothing a m → MakesNothing m b → MakesNothing a b
 makes-through a m b h k = record {
@@ -117,6 +111,7 @@ makes-through a m b h k = record {
   versions = k.versions ∙ h.versions;
   numbers = k.numbers ∙ h.numbers;
   gone = λ n r. h.gone n (k.gone n r);
+  lives = λ n r. h.lives n (k.lives n r);
   is = k.is ∙ ap (λ (z : Books). record z {
     supers = b.supers;
     memtables = b.memtables;

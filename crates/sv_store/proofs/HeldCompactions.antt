@@ -20,6 +20,11 @@ use Rattle.sv_store.specs.Outputs.{PutsText}
 use Rattle.sv_store.proofs.HeldFlushes.{refused-any}
 use Rattle.sv_store.proofs.HeldLaws.{held-given, held-installed, none-cleaned}
 
+-- a merge that was refused changed no file but that of its number
+pub given-changed : (told now : Option Files) (files : List FileMeta) (file : FileMeta) (e : Refusal) → MergeRefused files file told now e
+    → LeavesAny file.number told now ⊎ (now ≡ told)
+given-changed told now files file e h = ⊎_elim (λ z. inr z.1) (λ z. refused-any file.number told now e z.1) h
+
 module _ (a b : Books) (sound : Sound a) (told now : Option Files) (f : ℕ) where
   -- what is put is the text, or nothing is told
   put-text : (files : List FileMeta) (file : FileMeta) → PutsMerge a f files file told now → IsHeld a told → PutsText a.journal f file told now ⊎ (now ≡ None)
@@ -42,16 +47,13 @@ module _ (a b : Books) (sound : Sound a) (told now : Option Files) (f : ℕ) whe
       (λ none all q. absurd (none_some all (sym none ∙ q)))
       (put-text h.planned.version.files file h.puts k)
 
-  given-changed : (files : List FileMeta) (file : FileMeta) (e : Refusal) → MergeRefused files file told now e → LeavesAny file.number told now ⊎ (now ≡ told)
-  given-changed files file e h = ⊎_elim (λ z. inr z.1) (λ z. refused-any file.number told now e z.1) h
-
   stopped-held : (e : Refusal) → GivesUpMerge a b told now f e → IsHeld a told → IsHeld b now
   stopped-held e h =
       let begun = sound-kept a h.mid sound (merge_planned f h.file h.planned) in
       let last = sound-kept h.mid b begun.0 (given_up f h.file.number h.given_up) in
       held-given a h.mid f h.file h.planned.captured b sound.lawful last.0.lawful (after-through a h.mid b begun.1 last.1)
       h.given_up.settled told now
-      (⊎_elim (λ z. given-changed h.planned.version.files h.file e z.refused) (λ z. inl (Some z.0.merged.0, z.0.merged.2)) h.why)
+      (⊎_elim (λ z. given-changed told now h.planned.version.files h.file e z.refused) (λ z. inl (Some z.0.merged.0, z.0.merged.2)) h.why)
 
   pub compaction-held : (r : Result FileMeta Refusal) → IfOk r (MergesFamily a b told now f) → IfErr r (GivesUpMerge a b told now f) → IsHeld a told → IsHeld b now
   compaction-held (Ok file) h stops = merged-held file h

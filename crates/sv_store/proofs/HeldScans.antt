@@ -33,7 +33,7 @@ none-lives : (old new : FileRegister) (strays gone : List ℕ) → new ≡ with_
 none-lives old new strays gone is n live = ⊎_elim
     (λ here. here)
     (λ stray. live_obsolete (sym stray.2.status_is ∙ ap (λ (z : RegisteredFile). z.status) (in-strays strays stray.0 stray.1).2))
-    (stray-or (HasStatus n Live) old.numbers (map obsolete_stray strays) (none-ended (with_strays old strays) new gone is n live))
+    (stray-or (HasStatus n Live) old.numbers (map obsolete_stray strays) (none-ended Live (λ q. live_gone q) (with_strays old strays) new gone is n live))
 
 module _ (a b : Books) (before : Lawful a) (next : Follows a b) (told now : Option Files) (faults count : ℕ) where
   -- one that was Obsolete before some became Gone is registered, and is not Live

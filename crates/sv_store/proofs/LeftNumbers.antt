@@ -1,5 +1,5 @@
 -- The numbers that a close leaves.
-use Rattle.std.proofs.Common.{◌≡◌, ◌<◌, ◌≤◌, ◌+◌, inl, ⊎_elim, ◌↔◌, ℕ, zero, suc, Bool, true, false, cond, List, [], ◌∷◌, length, get_or, Option, Some, None, refl, sym, ap, ◌∙◌, subst, arith}
+use Rattle.std.proofs.Common.{◌≡◌, ◌<◌, ◌≤◌, ◌+◌, ◌⊎◌, inl, inr, ⊎_elim, ◌↔◌, ℕ, zero, suc, Bool, true, false, cond, List, [], ◌∷◌, length, get_or, Option, Some, None, refl, sym, ap, ◌∙◌, subst, arith}
 use Rattle.std.specs.Prelude.{IfSome, nat_lt, slice_get, sum}
 use Rattle.std.specs.List.Sorted.{IsStrictlyIncreasing}
 use Rattle.std.proofs.lemmas.Option.{slice_get_within}
@@ -11,14 +11,14 @@ use Rattle.sv_model.specs.Books.{FileRegister}
 use Rattle.sv_model.specs.Lists.{In, IsPartOf}
 use Rattle.sv_model.specs.Numbers.{AreInOrder, IsReady, IsRegistered, NumbersStand, least_captured, registered}
 use Rattle.sv_model.specs.Summaries.{ascending, obsolete_of, obsolete_registered, place_number}
-use Rattle.sv_model.proofs.AscendingLists.{Rises, in-here, in_none, rises_from}
+use Rattle.sv_model.proofs.AscendingLists.{Rises, in-here, in-later, in_cons, in_none, rises_from}
 use Rattle.sv_model.specs.Files.{Files}
 use Rattle.sv_model.specs.Registers.{entry}
 use Rattle.sv_files.specs.Calls.{disabled}
 use Rattle.sv_model.proofs.Entries.{some}
 use Rattle.sv_model.proofs.NumberLaws.{one_entry}
 use Rattle.sv_laws.proofs.Apart.{obsolete_gone}
-use Rattle.sv_laws.proofs.ObsoleteNumbers.{left_is, lists}
+use Rattle.sv_laws.proofs.ObsoleteNumbers.{left_is, listed, lists}
 use Rattle.sv_store.specs.Closing.{EndsAs}
 use Rattle.sv_store.specs.Ending.{RemovesObsolete, end_after}
 use Rattle.sv_store.specs.Removals.{DirSeen, FilesGoIfTold, LeftAs, Removes, RemovesSome, ended, with_gone}
@@ -44,6 +44,30 @@ strictly (x ∷ y ∷ l) r zero lt = r.0 y (in-here y l)
 strictly (x ∷ y ∷ l) r (suc k) lt =
     let q : suc (k + 1) ≡ suc k + 1 = omega arith in
     subst (λ m. get_or (y ∷ l) k 0 < get_or (x ∷ y ∷ l) m 0) q (strictly (y ∷ l) r.1 k (omega (arith, lt)))
+
+-- ---- what is listed as left
+
+place-from : (n x : ℕ) (l : List ℕ) → In n (place_number x l) → (n ≡ x) ⊎ In n l
+place-from n x [] i = in_cons n x [] i
+place-from n x (y ∷ l) i = by (nat_lt x y) (place-from n x l) i
+  where
+    by : (b : Bool) → (In n (place_number x l) → (n ≡ x) ⊎ In n l) → In n (cond b (x ∷ y ∷ l) (y ∷ place_number x l)) → (n ≡ x) ⊎ In n (y ∷ l)
+    by true rest q = in_cons n x (y ∷ l) q
+    by false rest q = ⊎_elim
+        (λ e. inr (subst (λ z. In z (y ∷ l)) (sym e) (in-here y l)))
+        (λ j. ⊎_elim (λ e. inl e) (λ k. inr (in-later n y l k)) (rest j))
+        (in_cons n y (place_number x l) q)
+
+ascending-from : (n : ℕ) (l : List ℕ) → In n (ascending l) → In n l
+ascending-from n [] i = i
+ascending-from n (x ∷ l) i = ⊎_elim
+    (λ e. subst (λ z. In z (x ∷ l)) (sym e) (in-here x l))
+    (λ j. in-later n x l (ascending-from n l j))
+    (place-from n x (ascending l) i)
+
+-- each is Obsolete
+pub left-obsolete : (numbers : List RegisteredFile) (n : ℕ) → In n (obsolete_of numbers) → IsRegistered numbers n Obsolete
+left-obsolete numbers n i = listed numbers n (ascending-from n (obsolete_registered numbers) i)
 
 -- ---- the bound where nothing is captured
 

@@ -1,4 +1,4 @@
-mod AbsentFiles
+pub mod AbsentFiles
 mod ActiveCells
 mod CallLaws
 mod CellLaws
@@ -18,13 +18,16 @@ mod FlushLaws
 mod FlushedLaws
 mod FrameLaws
 mod HandedNumbers
+mod HeldCloses
 mod HeldCompactions
 mod HeldFlushes
 pub mod HeldLaws
 mod HeldPurges
 mod HeldScans
+mod LeftCompactions
 mod LeftFlushes
 mod LeftNumbers
+mod LeftScans
 mod LiveLaws
 mod OpeningLaws
 mod OutputLaws

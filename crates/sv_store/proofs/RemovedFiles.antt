@@ -1,7 +1,7 @@
 -- The files of a directory, from which one more is removed.
 use Rattle.std.specs.FinMap as finite
 use Rattle.std.proofs.Common.{◌≡◌, ◌++◌, ◌∷◌, ◌⊎◌, inl, inr, ⊎_elim, ℕ, Bool, true, false, cond, List, [], Option, Some, None, refl, sym, ap, ◌∙◌, subst}
-use Rattle.std.specs.Prelude.{bytes_eq}
+use Rattle.std.specs.Prelude.{bytes_eq, is_some}
 use Rattle.std.specs.Cmp.Lexicographic.{nat_list_cmp_total}
 use Rattle.std.proofs.lemmas.Bool.{false≢true}
 use Rattle.std.proofs.lemmas.Map.Text.{is_eq-slice_cmp}
@@ -123,6 +123,13 @@ module _ (gone left : List ℕ) (before mid : Files) (n : ℕ) (h : FilesGo gone
 pub nothing-goes : (files : Option Files) → FilesGoIfTold [] [] files files
 nothing-goes None = tt
 nothing-goes (Some files) = record { absent = λ n i. absurd (in-none n i); same_or_absent = λ n i. absurd (in-none n i); others = λ name out. refl }
+
+-- It tells them after just where it told them before.
+pub go-told : (gone left : List ℕ) (before after : Option Files) → FilesGoIfTold gone left before after → is_some after ≡ is_some before
+go-told gone left None None h = refl
+go-told gone left (Some before) (Some after) h = refl
+go-told gone left None (Some after) h = absurd h
+go-told gone left (Some before) None h = absurd h
 
 pub files-gone : (gone left : List ℕ) (n : ℕ) (before mid after : Option Files) → FilesGoIfTold gone left before mid → RemovesFile n mid after
     → FilesGoIfTold (gone ++ n ∷ []) left before after

@@ -7,7 +7,7 @@ use Rattle.sv_model.specs.declared.refusals.Refusal.{Refusal}
 use Rattle.sv_model.specs.declared.refusals.Refusal.TheVariants as refusal
 use Rattle.sv_model.specs.declared.reports.End.{End}
 use Rattle.sv_model.specs.declared.reports.End.TheVariants as end
-use Rattle.sv_model.specs.declared.records.FileStatus.TheVariants.{Gone}
+use Rattle.sv_model.specs.declared.records.FileStatus.TheVariants.{Gone, Live}
 use Rattle.sv_model.specs.Books.{Books, FileRegister}
 use Rattle.sv_model.specs.Families.{is_retired}
 use Rattle.sv_model.specs.Lists.{In}
@@ -59,7 +59,7 @@ pub record LetsFamilyGo (a b : Books) (family : ℕ) : Type 0 where
   pub retired : it.dropped ≡ true → is_retired now ≡ true
   pub placed : IsPlaced a.families b.families family now
 
--- Nothing is made: no register is longer, no number is drawn, and no file is removed.
+-- Nothing is made: no register is longer, no number is drawn, none becomes Live, and no file is removed.
 pub record MakesNothing (a b : Books) : Type 0 where
   pub supers : length b.supers ≡ length a.supers
   pub memtables : length b.memtables ≡ length a.memtables
@@ -67,6 +67,7 @@ pub record MakesNothing (a b : Books) : Type 0 where
   pub versions : length b.versions ≡ length a.versions
   pub numbers : length b.files.numbers ≡ length a.files.numbers
   pub gone : (n : ℕ) → IsRegistered b.files.numbers n Gone → IsRegistered a.files.numbers n Gone
+  pub lives : (n : ℕ) → IsRegistered b.files.numbers n Live → IsRegistered a.files.numbers n Live
   pub is : b ≡ record a {
     supers = b.supers;
     memtables = b.memtables;

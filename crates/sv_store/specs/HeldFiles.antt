@@ -27,3 +27,7 @@ StayIfTold b before after = ⊥
 pub record LeavesOthers (a b : Books) (told now : Option Files) : Type 0 where
   pub absent : IsAbsent a told → IsAbsent b now
   pub stay : StayIfTold b told now
+
+-- where no file changes
+abbrev pub KeepsOthers : Books → Books → Type 0
+KeepsOthers a b = (told : Option Files) → LeavesOthers a b told told

@@ -1,5 +1,5 @@
 // The close: holds, snapshots and currents end, and each file that nothing needs is removed.
-ghost use Rattle.std.specs.Prelude.{◌≡◌, ◌≤◌, Some};
+ghost use Rattle.std.specs.Prelude.{◌≡◌, ◌≤◌, Some, is_some};
 ghost use Rattle.sv_model.specs.declared.sv_refs.SvRef.{SvRef};
 ghost use Rattle.sv_journal.specs.Calls.{AreEnded};
 ghost use Rattle.sv_laws.specs.Cleaning.{IsCleaned};
@@ -10,6 +10,7 @@ ghost use Rattle.sv_state.specs.Follows.{Follows, OnlyFiles};
 ghost use Rattle.sv_state.specs.Gone.{IsFree, TellsEnd};
 ghost use Rattle.sv_store.specs.Closing.{Closes, ClosesFiles, EndsAs, IsClosed};
 ghost use Rattle.sv_store.specs.Ending.{CanClose, CanEndCurrent, CanRemove, EndsCurrent, EndsCurrents, EndsSnapshots, LetsFamilyGo, LosesCurrent, MayReclaim, RemovesObsolete, end_after};
+ghost use Rattle.sv_store.specs.HeldFiles.{IsHeld, LeavesOthers};
 ghost use Rattle.sv_store.specs.Standing.{IsAlone};
 
 use crate::purges::remove_each;
@@ -132,6 +133,9 @@ impl Store {
         ensures closes { Closes self.books result.books.books }
         ensures files { ClosesFiles self.books.files result.books.books.files (record { files = D.files dir.old; later = D.files dir.new; before = D.faults dir.old; now = D.faults dir.new }) }
         ensures end { EndsAs result.end (obsolete_of result.books.books.files.numbers) (D.faults dir.old) (D.faults dir.new) }
+        ensures held { IsHeld self.books (D.files dir.old) → IsHeld result.books.books (D.files dir.new) }
+        ensures others { LeavesOthers self.books result.books.books (D.files dir.old) (D.files dir.new) }
+        ensures told { is_some (D.files dir.new) ≡ is_some (D.files dir.old) }
         ensures later { D.faults dir.old ≤ D.faults dir.new }
         ensures follows { Follows self.books result.books.books }
     {

@@ -3,7 +3,7 @@ ghost use Rattle.std.specs.Prelude.{IfErr, IfOk};
 ghost use Rattle.sv_file_checks.specs.Faults.{CountsFault};
 ghost use Rattle.sv_state.specs.Follows.{Follows};
 ghost use Rattle.sv_store.specs.Compacting.{CompactRefused, Compacts};
-ghost use Rattle.sv_store.specs.HeldFiles.{IsHeld};
+ghost use Rattle.sv_store.specs.HeldFiles.{IsHeld, LeavesOthers};
 
 use crate::appends::LANE;
 use crate::compaction_files::merge_family;
@@ -25,6 +25,7 @@ impl Store {
         ensures refused { IfErr result (CompactRefused self.old self.new (D.files dir.old) (D.files dir.new) name.now) }
         ensures faults { CountsFault result (D.faults dir.old) (D.faults dir.new) }
         ensures held { IsHeld self.old.books (D.files dir.old) → IsHeld self.new.books (D.files dir.new) }
+        ensures others { LeavesOthers self.old.books self.new.books (D.files dir.old) (D.files dir.new) }
         ensures follows { Follows self.old.books self.new.books }
     {
         let file = match self.state.compact_plan(LANE, name) {

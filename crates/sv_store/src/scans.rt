@@ -4,7 +4,7 @@ ghost use Rattle.sv_dir.specs.TableNames.{number_named};
 ghost use Rattle.sv_file_checks.specs.Faults.{CountsFault};
 ghost use Rattle.sv_files.specs.Calls.{disabled};
 ghost use Rattle.sv_state.specs.Follows.{Follows, OnlyFiles};
-ghost use Rattle.sv_store.specs.HeldFiles.{IsHeld};
+ghost use Rattle.sv_store.specs.HeldFiles.{IsHeld, LeavesOthers};
 ghost use Rattle.sv_store.specs.Scanning.{IsListing, ListingRefused, ScanStops, Scans, numbers_named};
 
 use crate::removals::{refused_after, remove_grabbed};
@@ -92,6 +92,7 @@ impl Store {
         ensures scanned { IfOk result (λ numbers. Scans self.old.books.files self.new.books.files (record { files = D.files dir.old; later = D.files dir.new; before = D.faults dir.old; now = D.faults dir.new }) numbers.items) }
         ensures stops { IfErr result (ScanStops self.old.books.files self.new.books.files (record { files = D.files dir.old; later = D.files dir.new; before = D.faults dir.old; now = D.faults dir.new })) }
         ensures held { IsHeld self.old.books (D.files dir.old) → IsHeld self.new.books (D.files dir.new) }
+        ensures others { LeavesOthers self.old.books self.new.books (D.files dir.old) (D.files dir.new) }
         ensures rest { self.new ≡ record self.old { books = record self.old.books { files = self.new.books.files } } }
         ensures follows { Follows self.old.books self.new.books }
     {

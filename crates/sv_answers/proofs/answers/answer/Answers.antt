@@ -8,6 +8,7 @@ use Rattle.sv_answers.proofs.QuietRefusals.{counts-quiet}
 use Rattle.sv_answers.proofs.CommandFiles.{tells-as, tells-none}
 use Rattle.sv_replies.specs.Makes.{Makes, draws_by}
 use Rattle.sv_answers.proofs.MakesAnswers.{makes-up-to}
+use Rattle.sv_answers.proofs.HeldAnswers.{read-others}
 use Rattle.sv_answers.proofs.answers.answer.Goals as goal
 
 pub returns-in-Scan-clause-answered : goal.returns-in-Scan-clause-answered
@@ -28,6 +29,7 @@ returns-in_default g c =
       faults = counts-quiet x.result (g.D.Dir.faults c.args.dir.now) x.ensures.quiet;
       held = x.ensures.held (g.D.Dir.files c.args.dir.now);
       told = refl;
+      others = x.ensures.others (g.D.Dir.files c.args.dir.now);
       follows = x.ensures.follows;
     }
 
@@ -79,3 +81,9 @@ returns-in-Get-clause-makes g c =
 pub returns-in-Gets-clause-makes : goal.returns-in-Gets-clause-makes
 returns-in-Gets-clause-makes g c =
     subst (λ (z : Command). Makes c.args.store.now.books c.args.store.now.books c.gets.result (draws_by z c.gets.result)) (sym c.in-Gets.is) c.gets.ensures.makes
+
+pub returns-in-Get-clause-others : goal.returns-in-Get-clause-others
+returns-in-Get-clause-others g c = read-others c.args.store.now.books (g.D.Dir.files c.args.dir.now) (g.D.Dir.files c.get.new.dir) c.get.ensures.same
+
+pub returns-in-Gets-clause-others : goal.returns-in-Gets-clause-others
+returns-in-Gets-clause-others g c = read-others c.args.store.now.books (g.D.Dir.files c.args.dir.now) (g.D.Dir.files c.gets.new.dir) c.gets.ensures.same

@@ -6,6 +6,7 @@ use Rattle.sv_state.specs.Follows.{Follows}
 use Rattle.sv_store.specs.Seen.{StoreSeen}
 use Rattle.sv_replies.specs.Answers.{Answers}
 use Rattle.sv_answers.specs.Answered.{KeepsHeld, alone}
+use Rattle.sv_answers.proofs.HeldAnswers.{same-others}
 use Rattle.sv_answers.proofs.answers.answer_in_memory.Goals as goal
 
 pub returns-in-Put-clause-answered : goal.returns-in-Put-clause-answered
@@ -74,3 +75,6 @@ pub returns-in-Live-clause-held : goal.returns-in-Live-clause-held
 returns-in-Live-clause-held c =
     let a = c.args.store.now.books in
     subst (λ (z : StoreSeen). KeepsHeld a z.books) (sym c.live.ensures.kept) (λ told held. held)
+
+pub returns-in-Live-clause-others : goal.returns-in-Live-clause-others
+returns-in-Live-clause-others c = same-others c.args.store.now c.live.new.store c.live.ensures.kept

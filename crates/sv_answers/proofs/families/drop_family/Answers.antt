@@ -1,7 +1,7 @@
 use Rattle.std.proofs.Common.{ap, refl}
 use Rattle.std.specs.Prelude.{Ok, Err}
 use Rattle.sv_model.specs.Books.{Books}
-use Rattle.sv_answers.proofs.HeldAnswers.{numbers-held, same-held}
+use Rattle.sv_answers.proofs.HeldAnswers.{numbers-held, numbers-others, same-held, same-others}
 use Rattle.sv_answers.proofs.FamilyAnswers.{drop-replies}
 use Rattle.sv_answers.proofs.QuietRefusals.{drop-quiet, exactly-quiet}
 use Rattle.sv_answers.proofs.MakesAnswers.{makes-same}
@@ -33,7 +33,7 @@ returns-in-Err-clause-held c =
     same-held c.args.store.now c.drop_family.new.self c.laws.ensures.rests.stands.sound x.follows x.kept
 
 pub returns-in-Ok-clause-makes : goal.returns-in-Ok-clause-makes
-returns-in-Ok-clause-makes c = 
+returns-in-Ok-clause-makes c =
     let is = c.in-Ok.ensures.dropped.is in
     makes-zero c.args.store.now.books c.drop_family.new.self.books reply.Drop 0 refl refl
     (grows-rest c.args.store.now.books c.drop_family.new.self.books (ap (λ (z : Books). z.supers) is) (ap (λ (z : Books). z.memtables) is)
@@ -42,3 +42,13 @@ returns-in-Ok-clause-makes c =
 pub returns-in-Err-clause-makes : goal.returns-in-Err-clause-makes
 returns-in-Err-clause-makes c =
     makes-same c.args.store.now c.drop_family.new.self (reply.Refused c.in-Err.refusal) 0 refl refl c.in-Err.ensures.kept
+
+pub returns-in-Ok-clause-others : goal.returns-in-Ok-clause-others
+returns-in-Ok-clause-others c =
+    let x = c.in-Ok.ensures in
+    numbers-others c.args.store.now c.drop_family.new.self (ap (λ (z : Books). z.files.numbers) x.dropped.is)
+
+pub returns-in-Err-clause-others : goal.returns-in-Err-clause-others
+returns-in-Err-clause-others c =
+    let x = c.in-Err.ensures in
+    same-others c.args.store.now c.drop_family.new.self x.kept

@@ -1,6 +1,6 @@
 use Rattle.std.proofs.Common.{refl}
 use Rattle.std.specs.Prelude.{Ok, Err}
-use Rattle.sv_answers.proofs.HeldAnswers.{release-held, same-held}
+use Rattle.sv_answers.proofs.HeldAnswers.{release-held, release-others, same-held, same-others}
 use Rattle.sv_answers.proofs.ReleaseAnswers.{release-replies}
 use Rattle.sv_answers.proofs.QuietRefusals.{exactly-quiet, release-quiet}
 use Rattle.sv_answers.proofs.MakesAnswers.{makes-same, release-makes}
@@ -36,3 +36,13 @@ returns-in-Ok-clause-makes c = release-makes c.args.store.now.books c.release.ne
 pub returns-in-Err-clause-makes : goal.returns-in-Err-clause-makes
 returns-in-Err-clause-makes c =
     makes-same c.args.store.now c.release.new.self (reply.Refused c.in-Err.refusal) 0 refl refl c.in-Err.ensures.kept
+
+pub returns-in-Ok-clause-others : goal.returns-in-Ok-clause-others
+returns-in-Ok-clause-others c =
+    let x = c.in-Ok.ensures in
+    release-others c.args.store.now c.release.new.self c.args.name.now x.released
+
+pub returns-in-Err-clause-others : goal.returns-in-Err-clause-others
+returns-in-Err-clause-others c =
+    let x = c.in-Err.ensures in
+    same-others c.args.store.now c.release.new.self x.kept

@@ -1,7 +1,7 @@
 use Rattle.std.proofs.Common.{ap, refl}
 use Rattle.std.specs.Prelude.{Ok, Err}
 use Rattle.sv_model.specs.Books.{FileRegister}
-use Rattle.sv_answers.proofs.HeldAnswers.{numbers-held, same-held}
+use Rattle.sv_answers.proofs.HeldAnswers.{numbers-held, numbers-others, same-held, same-others}
 use Rattle.sv_answers.proofs.HoldAnswers.{hold-replies}
 use Rattle.sv_answers.proofs.QuietRefusals.{exactly-quiet, hold-quiet}
 use Rattle.sv_answers.proofs.MakesAnswers.{makes-files, makes-same}
@@ -32,9 +32,19 @@ returns-in-Err-clause-held c =
     same-held c.args.store.now c.hold.new.self c.laws.ensures.rests.stands.sound x.follows x.kept
 
 pub returns-in-Ok-clause-makes : goal.returns-in-Ok-clause-makes
-returns-in-Ok-clause-makes c = 
+returns-in-Ok-clause-makes c =
     makes-files c.args.store.now c.hold.new.self (reply.Hold c.in-Ok.count) refl refl c.in-Ok.ensures.rest (ap (λ (z : FileRegister). z.next) c.in-Ok.ensures.held.1)
 
 pub returns-in-Err-clause-makes : goal.returns-in-Err-clause-makes
 returns-in-Err-clause-makes c =
     makes-same c.args.store.now c.hold.new.self (reply.Refused c.in-Err.refusal) 0 refl refl c.in-Err.ensures.kept
+
+pub returns-in-Ok-clause-others : goal.returns-in-Ok-clause-others
+returns-in-Ok-clause-others c =
+    let x = c.in-Ok.ensures in
+    numbers-others c.args.store.now c.hold.new.self (ap (λ (z : FileRegister). z.numbers) x.held.1)
+
+pub returns-in-Err-clause-others : goal.returns-in-Err-clause-others
+returns-in-Err-clause-others c =
+    let x = c.in-Err.ensures in
+    same-others c.args.store.now c.hold.new.self x.kept

@@ -1,6 +1,6 @@
 use Rattle.std.proofs.Common.{refl}
 use Rattle.std.specs.Prelude.{Ok, Err}
-use Rattle.sv_answers.proofs.HeldAnswers.{same-held, set-held}
+use Rattle.sv_answers.proofs.HeldAnswers.{same-held, same-others, set-held, set-others}
 use Rattle.sv_answers.proofs.SetAnswers.{set-replies}
 use Rattle.sv_answers.proofs.QuietRefusals.{due-quiet, set-quiet}
 use Rattle.sv_answers.proofs.MakesAnswers.{makes-same, set-makes}
@@ -33,9 +33,19 @@ returns-in-Err-clause-held c =
     same-held c.args.store.now c.set.new.self c.laws.ensures.rests.stands.sound x.follows x.kept
 
 pub returns-in-Ok-clause-makes : goal.returns-in-Ok-clause-makes
-returns-in-Ok-clause-makes c = 
+returns-in-Ok-clause-makes c =
     set-makes c.args.store.now.books c.set.new.self.books c.args.name.now c.args.option c.args.value c.in-Ok.serial c.in-Ok.ensures.set
 
 pub returns-in-Err-clause-makes : goal.returns-in-Err-clause-makes
 returns-in-Err-clause-makes c =
     makes-same c.args.store.now c.set.new.self (reply.Refused c.in-Err.refusal) 0 refl refl c.in-Err.ensures.kept
+
+pub returns-in-Ok-clause-others : goal.returns-in-Ok-clause-others
+returns-in-Ok-clause-others c =
+    let x = c.in-Ok.ensures in
+    set-others c.args.store.now c.set.new.self c.args.name.now c.args.option c.args.value _ x.set
+
+pub returns-in-Err-clause-others : goal.returns-in-Err-clause-others
+returns-in-Err-clause-others c =
+    let x = c.in-Err.ensures in
+    same-others c.args.store.now c.set.new.self x.kept

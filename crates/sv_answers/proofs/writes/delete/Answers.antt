@@ -3,7 +3,7 @@ use Rattle.std.specs.Prelude.{Ok, Err}
 use Rattle.sv_model.specs.declared.writes.Op.TheVariants as op
 use Rattle.sv_script.specs.declared.commands.Command.TheVariants as command
 use Rattle.sv_script.specs.declared.replies.Reply.TheVariants as reply
-use Rattle.sv_answers.proofs.HeldAnswers.{write-held}
+use Rattle.sv_answers.proofs.HeldAnswers.{same-others, write-held, write-others}
 use Rattle.sv_answers.proofs.PutAnswers.{delete-is}
 use Rattle.sv_answers.proofs.WriteAnswers.{write-answers}
 use Rattle.sv_answers.proofs.QuietRefusals.{due-quiet, key-quiet, write-quiet}
@@ -64,3 +64,16 @@ pub returns-in-Err-clause-answered : goal.returns-in-Err-clause-answered
 returns-in-Err-clause-answered c told k all =
     key-replies told c.args.store.now.books k (command.Delete c.args.name.now c.args.key.now) c.args.key.now
     (handle_cause k c.args.name.now ∷ dropped_cause k c.args.name.now ∷ []) c.in-Err.refusal all refl tt c.in-Err.ensures.refused
+
+pub returns-in-Ok-delete-clause-others : goal.returns-in-Ok-delete-clause-others
+returns-in-Ok-delete-clause-others c =
+    write-others c.args.store.now c.delete.new.self
+    c.args.name.now (record { key = c.in-Ok.key; op = op.Delete }) (Ok c.in-Ok-delete.number) c.in-Ok-delete.ensures.writes
+
+pub returns-in-Err-delete-clause-others : goal.returns-in-Err-delete-clause-others
+returns-in-Err-delete-clause-others c =
+    write-others c.args.store.now c.delete.new.self
+    c.args.name.now (record { key = c.in-Ok.key; op = op.Delete }) (Err c.in-Err-delete.refusal) c.in-Err-delete.ensures.writes
+
+pub returns-in-Err-clause-others : goal.returns-in-Err-clause-others
+returns-in-Err-clause-others c = same-others c.args.store.now c.args.store.now refl

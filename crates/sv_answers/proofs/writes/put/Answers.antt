@@ -3,7 +3,7 @@ use Rattle.std.specs.Prelude.{Ok, Err}
 use Rattle.sv_model.specs.declared.writes.Op.TheVariants as op
 use Rattle.sv_script.specs.declared.commands.Command.TheVariants as command
 use Rattle.sv_script.specs.declared.replies.Reply.TheVariants as reply
-use Rattle.sv_answers.proofs.HeldAnswers.{write-held}
+use Rattle.sv_answers.proofs.HeldAnswers.{same-others, write-held, write-others}
 use Rattle.sv_answers.proofs.PutAnswers.{put-is, row-free, row-replies}
 use Rattle.sv_answers.proofs.WriteAnswers.{write-answers}
 use Rattle.sv_answers.proofs.QuietRefusals.{due-quiet, row-quiet, write-quiet}
@@ -67,3 +67,16 @@ returns-in-Err-clause-makes c = makes-refused c.args.store.now.books c.in-Err.re
 pub returns-in-Err-clause-answered : goal.returns-in-Err-clause-answered
 returns-in-Err-clause-answered c told k all =
     row-replies told c.args.store.now.books k c.args.name.now c.args.key.now c.args.value.now c.in-Err.refusal all c.in-Err.ensures.refused
+
+pub returns-in-Ok-put-clause-others : goal.returns-in-Ok-put-clause-others
+returns-in-Ok-put-clause-others c =
+    write-others c.args.store.now c.put.new.self
+    c.args.name.now (record { key = c.in-Ok.key; op = op.Put c.in-Ok.value }) (Ok c.in-Ok-put.number) c.in-Ok-put.ensures.writes
+
+pub returns-in-Err-put-clause-others : goal.returns-in-Err-put-clause-others
+returns-in-Err-put-clause-others c =
+    write-others c.args.store.now c.put.new.self
+    c.args.name.now (record { key = c.in-Ok.key; op = op.Put c.in-Ok.value }) (Err c.in-Err-put.refusal) c.in-Err-put.ensures.writes
+
+pub returns-in-Err-clause-others : goal.returns-in-Err-clause-others
+returns-in-Err-clause-others c = same-others c.args.store.now c.args.store.now refl

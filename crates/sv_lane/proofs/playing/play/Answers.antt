@@ -27,5 +27,5 @@ loop-line-preserved g c =
       count = omega (arith, c.push_reserved.ensures.len);
       played = subst (λ (z : List (ℕ × Reply)). Played start new (take (c.loop-line.line-index + 1) c.args.lines.now) z) (sym c.push_reserved.ensures.items)
           (played-more start old new c.args.lines.now c.loop-line.replies.items c.loop-line.line-index c.line-item.result c.answer-reply.result (omega arith) (omega arith) c.line-item.is c.loop-line.invariant.played
-          (record { answered = e.answered; faults = e.faults; held = e.held; told = e.told; follows = e.follows; makes = e.makes }));
+          (record { answered = e.answered; faults = e.faults; held = e.held; told = e.told; others = e.others; follows = e.follows; makes = e.makes }));
     }

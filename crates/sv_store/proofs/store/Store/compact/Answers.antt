@@ -6,11 +6,13 @@ use Rattle.sv_state.specs.Follows.{Follows}
 use Rattle.sv_state.specs.Planning.{compact_refusal}
 use Rattle.sv_state.specs.Seen.{StateSeen}
 use Rattle.sv_store.specs.Compacting.{CanMerge, CompactRefused, Compacts}
-use Rattle.sv_store.specs.HeldFiles.{IsHeld}
+use Rattle.sv_store.specs.HeldFiles.{IsHeld, LeavesOthers}
 use Rattle.sv_store.specs.Seen.{StoreSeen}
+use Rattle.sv_store.proofs.AbsentFiles.{same-leaves}
 use Rattle.sv_store.proofs.CompactionCalls.{compacted-as, stopped-as}
 use Rattle.sv_store.proofs.FrameLaws.{own-currents}
 use Rattle.sv_store.proofs.HeldCompactions.{compaction-held}
+use Rattle.sv_store.proofs.LeftCompactions.{compaction-leaves}
 use Rattle.sv_store.proofs.PlanFaults.{compact-told, counts-none}
 use Rattle.sv_store.proofs.PlanLaws.{plan-made, plan-refused}
 use Rattle.sv_store.proofs.StandLaws.{follows-through}
@@ -51,6 +53,13 @@ returns-in-Err-clause-held g c =
     let F = g.D.Dir.files c.args.dir.now in
     subst (λ (z : StoreSeen). IsHeld z.books F → IsHeld c.compact_plan.new.self.books F) c.self.view_is
     (subst (λ (z : StateSeen). IsHeld c.self.inside.state.books F → IsHeld z.books F) (sym c.in-Err.ensures.kept) (λ held. held))
+
+pub returns-in-Err-clause-others : goal.returns-in-Err-clause-others
+returns-in-Err-clause-others g c =
+    let B = c.self.inside.state.books in
+    let F = g.D.Dir.files c.args.dir.now in
+    subst (λ (z : StoreSeen). LeavesOthers z.books c.compact_plan.new.self.books F F) c.self.view_is
+    (subst (λ (z : StateSeen). LeavesOthers B z.books F F) (sym c.in-Err.ensures.kept) (same-leaves B B (λ n has. has) F))
 
 -- ---- the plan is made
 
@@ -105,6 +114,20 @@ returns-clause-held g c =
     let t = c.merge_family.new.state.books in
     subst (λ (z : StoreSeen). IsHeld z.books F → IsHeld t G) c.self.view_is
     (compaction-held B t c.self.invariant.stands.sound F G p.0.family c.merge_family.result
+    (c.merge_family.ensures.merged B p.0.family can) (c.merge_family.ensures.stopped B p.0.family can))
+
+pub returns-clause-others : goal.returns-clause-others
+returns-clause-others g c =
+    let B = c.self.inside.state.books in
+    let M = c.compact_plan.new.self.books in
+    let F = g.D.Dir.files c.args.dir.now in
+    let G = g.D.Dir.files c.merge_family.new.dir in
+    let file = c.in-Ok.file in
+    let p = plan-made B c.args.name.now (compact_refusal B) (λ m file. IsMergePlanned B M m.family file) c.compact_plan.result c.compact_plan.ensures.planned file c.in-Ok.is in
+    let can : CanMerge B M c.self.inside.cells p.0.family file = record { rests = c.self.invariant; sound = c.compact_plan.ensures.follows.sound; planned = p.2 } in
+    let t = c.merge_family.new.state.books in
+    subst (λ (z : StoreSeen). LeavesOthers z.books t F G) c.self.view_is
+    (compaction-leaves B t c.self.invariant.stands.sound F G p.0.family c.merge_family.result
     (c.merge_family.ensures.merged B p.0.family can) (c.merge_family.ensures.stopped B p.0.family can))
 
 pub returns-clause-follows : goal.returns-clause-follows

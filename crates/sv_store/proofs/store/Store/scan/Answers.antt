@@ -2,11 +2,12 @@ use Rattle.std.proofs.Common.{Option, ap, subst, arith}
 use Rattle.std.specs.Prelude.{IfErr, IfOk}
 use Rattle.sv_model.specs.Files.{Files}
 use Rattle.sv_state.specs.Seen.{StateSeen}
-use Rattle.sv_store.specs.HeldFiles.{IsHeld}
+use Rattle.sv_store.specs.HeldFiles.{IsHeld, LeavesOthers}
 use Rattle.sv_store.specs.Scanning.{ScanStops, Scans}
 use Rattle.sv_store.specs.Seen.{StoreSeen}
 use Rattle.sv_store.proofs.FrameLaws.{files-rests}
 use Rattle.sv_store.proofs.HeldScans.{scan-held}
+use Rattle.sv_store.proofs.LeftScans.{scan-leaves}
 use Rattle.sv_store.proofs.RemovalSteps.{dir_seen}
 use Rattle.sv_store.proofs.ScanLaws.{free-of, scan-since, scan-still, stop-since}
 use Rattle.sv_store.proofs.store.Store.scan.Goals as goal
@@ -50,4 +51,15 @@ returns-clause-held g c =
     subst (λ (z : StoreSeen). IsHeld z.books files → IsHeld k.new.state.books last) c.self.view_is
     (subst (λ (f : Option Files). IsHeld a f → IsHeld k.new.state.books last) c.list_numbers.ensures.same
     (scan-held a k.new.state.books c.self.invariant.stands.sound.lawful k.ensures.follows (g.D.Dir.files c.list_numbers.new.dir) last
+    (g.D.Dir.faults c.list_numbers.new.dir) (g.D.Dir.faults k.new.dir) (λ v. v.items) k.result k.ensures.scanned k.ensures.stops))
+
+pub returns-clause-others : goal.returns-clause-others
+returns-clause-others g c =
+    let k = c.remove_listed in
+    let a = c.self.inside.state.books in
+    let files = g.D.Dir.files c.args.dir.now in
+    let last = g.D.Dir.files k.new.dir in
+    subst (λ (z : StoreSeen). LeavesOthers z.books k.new.state.books files last) c.self.view_is
+    (subst (λ (f : Option Files). LeavesOthers a k.new.state.books f last) c.list_numbers.ensures.same
+    (scan-leaves a k.new.state.books (g.D.Dir.files c.list_numbers.new.dir) last
     (g.D.Dir.faults c.list_numbers.new.dir) (g.D.Dir.faults k.new.dir) (λ v. v.items) k.result k.ensures.scanned k.ensures.stops))
