@@ -114,6 +114,35 @@ fn names_what_a_line_has_wrong(rt: HostRuntime) {
     }
 }
 
+// Each is read as one command of lane 1.
+const READ: [&[u8]; 16] = [
+    b"1 compact cold",
+    b"1 create cold",
+    b"1 open cold",
+    b"1 release cold",
+    b"1 drop cold",
+    b"1 set cold memtable_rows 0",
+    b"1 set cold max_immutable 00000000000000000009",
+    b"1 hold",
+    b"1 unhold",
+    b"1 live",
+    b"1 purge",
+    b"1 scan",
+    b"00000000000000000001 snap",
+    b"1 gets 18446744073709551615 cold %",
+    b"1 unsnap 0",
+    b"1 flush abcdefghijklmnopqrstuvwxyz_01234",
+];
+
+#[test]
+fn reads_each_command_of_one_lane(rt: HostRuntime) {
+    let alloc = rt.alloc();
+    for line in READ {
+        let script = parse(alloc, line);
+        assert!(rt; matches!(script, Ok(script) if script.lines.as_slice().len() == 1));
+    }
+}
+
 #[test]
 fn tests_one_line_in_order(rt: HostRuntime) {
     let alloc = rt.alloc();
@@ -130,27 +159,9 @@ fn tests_one_line_in_order(rt: HostRuntime) {
         (b"32 get cold a", BadKind::Unbuilt),
         (b"1 getp 18446744073709551615 a", BadKind::Unbuilt),
         (b"2 flush cold", BadKind::Unbuilt),
-        (b"1 compact cold", BadKind::Unbuilt),
-        (b"1 create cold", BadKind::Unbuilt),
-        (b"1 open cold", BadKind::Unbuilt),
-        (b"1 release cold", BadKind::Unbuilt),
-        (b"1 drop cold", BadKind::Unbuilt),
-        (b"1 set cold memtable_rows 0", BadKind::Unbuilt),
-        (
-            b"1 set cold max_immutable 00000000000000000009",
-            BadKind::Unbuilt,
-        ),
         (b"1 pin abcdefghijklmnopqrstuvwxyz_01234", BadKind::Unbuilt),
         (b"1 unpin 16", BadKind::Unbuilt),
-        (b"1 hold", BadKind::Unbuilt),
-        (b"1 unhold", BadKind::Unbuilt),
-        (b"1 live", BadKind::Unbuilt),
-        (b"1 purge", BadKind::Unbuilt),
-        (b"1 scan", BadKind::Unbuilt),
         (b"00000000000000000001 rest", BadKind::Unbuilt),
-        (b"1 snap", BadKind::Unbuilt),
-        (b"1 gets 18446744073709551615 cold %", BadKind::Unbuilt),
-        (b"1 unsnap 0", BadKind::Unbuilt),
     ] {
         expect_bad(&rt, alloc, line, 1, kind);
     }
