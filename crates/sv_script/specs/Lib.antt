@@ -7,7 +7,6 @@ pub mod OutcomeTexts
 pub mod Progress
 pub mod Reading
 pub mod RefusalTexts
-pub mod ReplyLaw
 pub mod ReplyTexts
 pub mod ReportTexts
 pub mod Script
