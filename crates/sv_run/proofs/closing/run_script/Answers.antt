@@ -1,6 +1,7 @@
 -- The lines were answered, and then the store was closed.
-use Rattle.std.proofs.Common.{◌≤◌, List, [], arith, is_some, sym, subst, ap}
+use Rattle.std.proofs.Common.{◌≡◌, ◌≤◌, List, [], arith, is_some, sym, subst, ap, ◌∙◌}
 use Rattle.sv_model.specs.Books.{Books}
+use Rattle.sv_model.specs.Openings.{opening_books}
 use Rattle.sv_script.specs.declared.replies.LaneReport.{LaneReport}
 use Rattle.sv_script.specs.declared.scripts.Line.{Line}
 use Rattle.sv_replies.specs.Told.{AloneTold}
@@ -21,11 +22,12 @@ returns-clause-ran g c =
     let later = g.D.Dir.files c.close-closed.new.dir in
     let faults = g.D.Dir.faults c.close-closed.new.dir in
     let x = c.close-closed.ensures in
+    let same : c.first.inside.0 ≡ c.args.first = omega (arith, c.first.view_is) in
     subst (λ (z : List LaneReport). LanesRan (record { files = files; later = later; before = before; now = faults }) c.args.script.now (record { books = c.close-closed.result.books; lanes = z; end = c.close-closed.result.end }))
     (sym c.one_lane.ensures)
     (lanes-ran c.args.script.now c.requires.well_formed c.args.first files c.requires.first before now c.play-replies.result
     (subst (λ (b : Books). Played (record { books = b; files = files; faults = before }) now c.args.script.now.lines c.play-replies.result)
-    (ap (λ (z : StoreSeen). z.books) c.in_ok-store.ensures)
+    (ap (λ (z : StoreSeen). z.books) c.in_ok-store.ensures ∙ ap opening_books same)
     (subst (λ (lines : List Line). Played (record { books = c.in_ok-store.store.books; files = files; faults = before }) now lines c.play-replies.result) c.as_slice-lines.ensures c.play-replies.ensures))
     c.close-closed.result.books c.close-closed.result.end later faults
     (record { is = x.closed; closes = x.closes; ends = x.end; held = x.held; others = x.others; more = x.later; follows = x.follows }))
@@ -33,7 +35,8 @@ returns-clause-ran g c =
 pub play-replies-requires-clause-told : goal.play-replies-requires-clause-told
 play-replies-requires-clause-told g c =
     let told = is_some (g.D.Dir.files c.args.dir.now) in
-    let books = ap (λ (z : StoreSeen). z.books) c.in_ok-store.ensures in
+    let same : c.first.inside.0 ≡ c.args.first = omega (arith, c.first.view_is) in
+    let books = ap (λ (z : StoreSeen). z.books) c.in_ok-store.ensures ∙ ap opening_books same in
     let most : c.args.first ≤ 18446744073709551615 =
     subst (λ (b : Books). b.files.next ≤ 18446744073709551615) books c.laws.ensures.rests.stands.sound.lawful.numbers.most in
     subst (λ (b : Books). AloneTold (alone told) b []) (sym books) (alone-none (alone told) c.args.first (omega arith) c.requires.some most)
@@ -41,4 +44,4 @@ play-replies-requires-clause-told g c =
 pub play-replies-requires-clause-held : goal.play-replies-requires-clause-held
 play-replies-requires-clause-held g c =
     subst (λ (b : Books). IsHeld b (g.D.Dir.files c.args.dir.now)) (sym (ap (λ (z : StoreSeen). z.books) c.in_ok-store.ensures))
-    (none-held c.args.first (g.D.Dir.files c.args.dir.now))
+    (none-held c.first.inside.0 (g.D.Dir.files c.args.dir.now))
