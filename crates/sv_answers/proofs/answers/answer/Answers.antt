@@ -1,10 +1,11 @@
-use Rattle.std.proofs.Common.{is_some, refl, subst, sym}
+use Rattle.std.proofs.Common.{is_some, rules, refl, subst, sym}
 use Rattle.sv_script.specs.declared.commands.Command.{Command}
 use Rattle.sv_script.specs.declared.commands.Command.TheVariants as command
 use Rattle.sv_store.specs.Removals.{DirSeen}
 use Rattle.sv_replies.specs.Answers.{Answers}
 use Rattle.sv_answers.specs.Answered.{alone}
 use Rattle.sv_answers.proofs.QuietRefusals.{counts-quiet}
+use Rattle.sv_answers.specs.Run.{AsksNone}
 use Rattle.sv_answers.specs.Steps.{Steps}
 use Rattle.sv_answers.proofs.StepLemmas.{alone-steps}
 use Rattle.sv_replies.specs.Makes.{Makes, draws_by}
@@ -23,8 +24,9 @@ returns-in_default g c =
     let files = g.D.Dir.files c.args.dir.now in
     let count = g.D.Dir.faults c.args.dir.now in
     let d : DirSeen = record { files = files; later = files; before = count; now = count } in
+    let none : AsksNone c.args.command.now = search rules in
     record {
-      step = alone-steps c.args.store.now x.new.store d c.args.command.now x.result c.answer_in_memory.requires x.ensures.step;
+      step = alone-steps c.args.store.now x.new.store d c.args.command.now x.result none x.ensures.step;
       answered = λ held. x.ensures.answered (is_some (g.D.Dir.files c.args.dir.now));
       makes = makes-up-to c.args.store.now.books x.new.store.books x.result (draws_by c.args.command.now x.result) x.ensures.makes;
       faults = counts-quiet x.result (g.D.Dir.faults c.args.dir.now) x.ensures.quiet;
