@@ -26,8 +26,8 @@ pub fn double(alloc: Global) -> Result<(Core<World>, LaneSeat<World>, LaneSeat<W
     ensures second { IfOk result (λ t. IsUnused (table_of t.0) t.2 × IsAlone 2 t.2) }
 {
     let (core, mut seats) = open(alloc, 2)?;
-    let second = seats.remove(1);
     let first = seats.remove(0);
+    let second = seats.remove(0);
     Ok((core, first, second))
 }
 
