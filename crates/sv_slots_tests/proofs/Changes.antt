@@ -158,6 +158,7 @@ module _ (l : ℕ) (t : Task) where
   install-turns own = option_set-turns l world_books installed_books t (install-called own) 0 first_options option-is-set
 
   pub install-opens : IsAccounted l world_books t → Opens world_books installed_books 0 new_pack
+  unfolding option-is-set
   install-opens own = option_set-opens l world_books installed_books t (install-called own) 0 first_options option-is-set
 
   cleanup-called : IsAccounted l installed_books t → IsCalled l installed_books t cleaned_books

@@ -28,7 +28,7 @@ use Rattle.sv_slots.specs.declared.refs.Owed.{Owed}
 use Rattle.sv_slots_tests.proofs.Changes.{cleanup-ends, cleanup-turns, end-ends, end-turns, install-opens, install-turns, new-fits}
 use Rattle.sv_slots_tests.specs.Stages.{cleaned_books, ended_books, installed_books, new_bodied, new_pack, old_pack}
 use Rattle.sv_slots_tests.specs.Sweeping.{IsFree, IsLeft, IsOwing, IsSweeping}
-use Rattle.sv_slots_tests.specs.World.{world_books}
+use Rattle.sv_slots_tests.specs.World.{body_of, world_books}
 
 -- the books of a turn may stay as they are
 pub stays-on : (l : ℕ) (a b : Books) (t u : Task) (more : List Write) → Turns l a t b u more → Turns l b u b u []
@@ -144,7 +144,7 @@ module _ (v : LaneView) (bare : IsIdle v) (own : IsAccounted v.known.lane world_
 -- ---- a slot is swept
 
 module _ (b : Books) (l : ℕ) (v : LaneView) (s : IsSweeping b l v) where
-  desk : Desk
+  abbrev desk : Desk
   desk = record { books = b; work = sweeping 0 old_pack l false 0; due = [] }
 
   is_desk : desk_of v ≡ desk
@@ -171,7 +171,7 @@ module _ (b : Books) (l : ℕ) (v : LaneView) (s : IsSweeping b l v) where
     is_old : p ≡ old_pack
     is_old = old ∙ ap (λ (d : Desk). old_in d.work) is_desk
 
-    took : LaneView
+    abbrev took : LaneView
     took = learnt more (works desk (sweeping 0 old_pack (l + 1) false 1) (old_pack ∷ v.hand) v)
 
     is_took : w ≡ took
@@ -205,7 +205,7 @@ module _ (b : Books) (l : ℕ) (v : LaneView) (s : IsSweeping b l v) where
 
 -- ---- all slots are swept
 
-is_last : Sub → Bool
+abbrev is_last : Sub → Bool
 is_last More = false
 is_last (Last owed) = true
 
@@ -298,3 +298,8 @@ module _ (owed : Owed) (v : LaneView) (o : IsOwing owed v)
       (record { books = cleaned_books; work = idle; due = [] }) o.free.alive refl refl refl o.free.cell
       (stays-on v.known.lane installed_books cleaned_books v.known.task v.known.task []
       (cleanup-turns v.known.lane v.known.task own)))
+
+-- ---- the new reference
+
+pub new_is : (p f : ℕ) → p ≡ new_pack → f ≡ 0 → ◌≡◌ {A = Bodied} (record { pack = p; body = body_of f }) new_bodied
+new_is p f e s = λ i. record { pack = e i; body = body_of (s i) }

@@ -28,10 +28,14 @@ pub fn begin<R: Wait + Abort>(
     ensures lanes { (view_of seat.new).seat.lanes ≡ (view_of seat.old).seat.lanes }
     ensures began { IsSweeping installed_books 0 (view_of seat.new) }
 {
-    let state = core.take_state(rt, seat);
-    assert_eq!(rt; state, Stage::Opened);
+    let Stage::Opened = core.take_state(rt, seat) else {
+        panic!(rt; "the books changed before")
+    };
     let found = core.make_current::<Brand>(seat, &Stage::Installed, FamilyId(0), new);
-    assert_eq!(rt; found, 256);
+    if found == 256 {
+        return;
+    }
+    panic!(rt; "another number was found")
 }
 
 // The family has no current any more.
@@ -43,10 +47,14 @@ fn begin_end<R: Wait + Abort>(rt: &R, core: &Core<World>, seat: &mut LaneSeat<Wo
     ensures lanes { (view_of seat.new).seat.lanes ≡ 1 }
     ensures began { IsSweeping ended_books 0 (view_of seat.new) }
 {
-    let state = core.take_state(rt, seat);
-    assert_eq!(rt; state, Stage::Opened);
+    let Stage::Opened = core.take_state(rt, seat) else {
+        panic!(rt; "the books changed before")
+    };
     let found = core.no_current::<Brand>(seat, &Stage::Ended, FamilyId(0));
-    assert_eq!(rt; found, 256);
+    if found == 256 {
+        return;
+    }
+    panic!(rt; "another number was found")
 }
 
 /// The slot of a lane is swept. Whether it cached the old SuperVersion.
@@ -134,8 +142,9 @@ pub fn clean<R: Wait + Abort>(rt: &R, core: &Core<World>, seat: &mut LaneSeat<Wo
     requires owed { IsOwing owed (view_of seat.old) }
     ensures same { IsSameSeat seat.old seat.new }
 {
-    let state = core.take_state(rt, seat);
-    assert_eq!(rt; state, Stage::Installed);
+    let Stage::Installed = core.take_state(rt, seat) else {
+        panic!(rt; "the books are not those of the install")
+    };
     core.settle::<Brand>(seat, &Stage::Cleaned, owed);
     core.give_state::<Brand>(seat, Stage::Cleaned);
 }
