@@ -1,5 +1,5 @@
 -- The books of the tests change as the laws of the books have it.
-use Rattle.std.proofs.Common.{List, None, Some, [], ap, arith, inl, refl, suc, true, zero, ℕ, ◌<◌, ◌∷◌, ◌≡◌}
+use Rattle.std.proofs.Common.{List, None, Some, [], arith, inl, refl, suc, true, zero, ℕ, ◌∷◌, ◌≡◌}
 use Rattle.std.specs.Prelude.{Bool, slice_get}
 use Rattle.sv_laws.proofs.Kept.{sound-kept}
 use Rattle.sv_laws.proofs.Opened.{opening-sound}
@@ -12,15 +12,12 @@ use Rattle.sv_model.specs.After.{After, KeepsList, KeepsMemtable, KeepsVersion}
 use Rattle.sv_model.specs.Described.{IsFileOf}
 use Rattle.sv_model.specs.Families.{InRange, default_family, first_options}
 use Rattle.sv_model.specs.Lists.{bit, total}
-use Rattle.sv_model.specs.Named.{IsLive, NamedList, NamedMemtable, NamedVersion, list_live, memtable_live, version_live}
+use Rattle.sv_model.specs.Named.{NamedList, NamedMemtable, NamedVersion, list_live, memtable_live, version_live}
 use Rattle.sv_model.specs.Registers.{entry}
 use Rattle.sv_model.specs.Steady.{Sound}
 use Rattle.sv_model.specs.Tasks.{Task}
 use Rattle.sv_model.specs.Turns.{EndsCurrent, EndsSuper, IsAccounted, Opens, Turns}
-use Rattle.sv_model.specs.declared.records.Memtable.{Memtable}
-use Rattle.sv_model.specs.declared.records.MemtableList.{MemtableList}
 use Rattle.sv_model.specs.declared.records.SuperVersion.{SuperVersion}
-use Rattle.sv_model.specs.declared.records.Version.{Version}
 use Rattle.sv_rule.specs.Fits.{BodyFits, IsFrozenAt}
 use Rattle.sv_slots_tests.proofs.FirstWorld.{by-four, first-world, some_is}
 use Rattle.sv_slots_tests.specs.Stages.{cleaned_books, ended_books, installed_books, new_bodied, new_pack, new_super, old_pack}

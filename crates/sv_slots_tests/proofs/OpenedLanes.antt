@@ -1,5 +1,5 @@
 -- The lanes of a new table have nothing, and each has its seat in the list.
-use Rattle.std.proofs.Common.{List, [], arith, length, refl, subst, suc, sym, zero, ℕ, ◌+◌, ◌<◌, ◌≡◌}
+use Rattle.std.proofs.Common.{List, [], length, refl, subst, suc, sym, zero, ℕ, ◌<◌, ◌≡◌}
 use Rattle.std.specs.List.{remove}
 use Rattle.std.specs.Prelude.{slice_index_or}
 use Rattle.atomic_table.specs.Seated.{TableId}

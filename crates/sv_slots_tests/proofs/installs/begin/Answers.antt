@@ -1,7 +1,6 @@
-use Rattle.std.proofs.Common.{ap, subst, ℕ, ◌∙◌, ◌≡◌}
+use Rattle.std.proofs.Common.{ap, subst, ◌∙◌}
 use Rattle.sv_model.specs.Turns.{IsAccounted}
 use Rattle.sv_rule.specs.LockPlays.{took_db}
-use Rattle.sv_rule.specs.Views.{Bodied}
 use Rattle.sv_slots_tests.proofs.Sweeps.{may_open, new_is, sweeps_new}
 use Rattle.sv_slots_tests.specs.Stages.{books_at}
 use Rattle.sv_slots_tests.specs.declared.stages.Stage.{Stage}

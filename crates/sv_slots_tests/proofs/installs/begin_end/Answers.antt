@@ -1,4 +1,4 @@
-use Rattle.std.proofs.Common.{ap, arith, length, subst, ◌∙◌, ◌≡◌}
+use Rattle.std.proofs.Common.{ap, arith, length, subst, ◌∙◌}
 use Rattle.sv_model.specs.Turns.{IsAccounted}
 use Rattle.sv_rule.specs.LockPlays.{took_db}
 use Rattle.sv_slots_tests.proofs.Sweeps.{may_end, sweeps_ended}

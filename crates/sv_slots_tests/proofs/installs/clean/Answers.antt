@@ -1,4 +1,4 @@
-use Rattle.std.proofs.Common.{ap, subst, ◌∙◌, ◌≡◌}
+use Rattle.std.proofs.Common.{ap, subst, ◌∙◌}
 use Rattle.sv_model.specs.Turns.{IsAccounted}
 use Rattle.sv_rule.specs.LockPlays.{took_db}
 use Rattle.sv_slots_tests.proofs.Sweeps.{may_settle, settled_gives}
