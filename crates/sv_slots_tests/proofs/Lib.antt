@@ -5,5 +5,3 @@ pub mod CachingLane
 pub mod OpenedLanes
 pub mod Changes
 pub mod Sweeps
-pub mod Hits
-pub mod GivenLocks

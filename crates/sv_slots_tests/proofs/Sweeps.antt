@@ -2,7 +2,6 @@
 use Rattle.std.proofs.Common.{Bool, List, None, Option, Some, [], ap, arith, false, inl, inr, length, refl, subst, sym, true, ℕ, ◌+◌, ◌<◌, ◌∙◌, ◌∷◌, ◌≡◌, ◌≤◌}
 use Rattle.sv_model.specs.Books.{Books}
 use Rattle.sv_model.specs.Families.{default_family}
-use Rattle.sv_model.specs.Lawful.{Lawful}
 use Rattle.sv_model.specs.Lists.{same, total}
 use Rattle.sv_model.specs.Tasks.{Task}
 use Rattle.sv_model.specs.Turns.{IsAccounted, Turns}
@@ -30,12 +29,11 @@ use Rattle.sv_slots_tests.specs.Stages.{cleaned_books, ended_books, installed_bo
 use Rattle.sv_slots_tests.specs.Sweeping.{IsFree, IsLeft, IsOwing, IsSweeping}
 use Rattle.sv_slots_tests.specs.World.{body_of, world_books}
 
--- lawful books may stay as they are
-stays-by : (l : ℕ) (b : Books) (u : Task) → Lawful b → (u.quiet ≡ true → (0 < u.holds) × (b.files.jobs ≡ 0))
-    → (u.quiet ≡ false → u.listed ≡ []) → Turns l b u b u []
-stays-by l b u lawful quiet loud = record {
+-- the books of a turn may stay as they are
+pub stays-on : (l : ℕ) (a b : Books) (t u : Task) (more : List Write) → Turns l a t b u more → Turns l b u b u []
+stays-on l a b t u more h = record {
   counts = record {
-    lawful = lawful;
+    lawful = h.counts.lawful;
     later = after-itself b;
     journal = append_none b.journal;
     own = every_none (λ (w : Write). w.lane ≡ l);
@@ -52,8 +50,8 @@ stays-by l b u lawful quiet loud = record {
     output = λ o e. inl (record { was = o; is = e; same = refl });
     gone = λ n h. inl h;
     begins = λ none one. absurd (omega (arith, none, one));
-    quiet = quiet;
-    loud = loud;
+    quiet = h.counts.quiet;
+    loud = h.counts.loud;
     listed = λ i n e. inl (record { at = i; is = e });
   };
   written = λ o e w. e;
@@ -61,12 +59,6 @@ stays-by l b u lawful quiet loud = record {
   gone = λ n h. inl h;
   marks = λ k h z. h;
 }
-
-pub stays-on : (l : ℕ) (a b : Books) (t u : Task) (more : List Write) → Turns l a t b u more → Turns l b u b u []
-stays-on l a b t u more h = stays-by l b u h.counts.lawful h.counts.quiet h.counts.loud
-
-pub stays-found : (l : ℕ) (b : Books) (t : Task) → IsAccounted l b t → Turns l b t b t []
-stays-found l b t own = stays-by l b t own.lawful own.quiet own.loud
 
 pub gives_back : (v : LaneView) (d : Desk) → v.seat.spent ≡ false → v.locks.db ≡ Some d → d.work ≡ idle → d.due ≡ []
     → v.locks.cell ≡ None → Turns v.known.lane d.books v.known.task d.books v.known.task []
