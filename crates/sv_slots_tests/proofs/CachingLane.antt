@@ -12,9 +12,11 @@ use Rattle.sv_rule.specs.SeatPlays.{IsIdle}
 use Rattle.sv_rule.specs.Table.{slot_of}
 use Rattle.sv_rule.specs.Views.{Bodied, Desk, LaneView, SlotView, away, borrow, idle}
 use Rattle.sv_slots.proofs.Unchanged.{gives_found}
-use Rattle.sv_slots.specs.Borrows.{borrowed, given_back}
+use Rattle.sv_model.specs.Books.{Books}
+use Rattle.sv_slots.specs.Borrows.{borrowed, given_back, swept_back}
 use Rattle.sv_slots.specs.Seats.{HasDesk, Lends}
 use Rattle.sv_slots_tests.proofs.Bodies.{bodied_of, bodies-fit, currents, in-snoc}
+use Rattle.sv_slots_tests.specs.Sweeping.{IsFree}
 use Rattle.sv_slots_tests.specs.Unused.{CanBorrow}
 use Rattle.sv_slots_tests.specs.World.{body_of, world_books}
 
@@ -101,4 +103,32 @@ module _ (f : ℕ) (near : f < 4) (v : LaneView) (bare : IsIdle v) where
   can_borrow w x p e is = record {
     free = ap (λ (z : LaneView). slot_of z f) is ∙ at-put_same away w.slots.slot f away;
     room = omega (arith, ap (λ (z : LaneView). length z.hand) is, room_left w e);
+  }
+
+  -- books that are not those of the opening are given back as they were found
+  pub may_give_any : (b : Books) (w : LaneView) → w ≡ took_db b v → IsAccounted v.known.lane b v.known.task
+      → MayGiveDb w b w.known.task
+  may_give_any b w e is = subst (λ (z : LaneView). MayGiveDb z b z.known.task) (sym e)
+      (gives_found (took_db b v) (record { books = b; work = idle; due = [] }) bare.alive refl refl refl bare.cell is)
+
+  pub free_any : (b : Books) (w u : LaneView) → w ≡ took_db b v → u ≡ gave_db b w.known.task w → IsFree u
+  free_any b w u e is =
+      let same : u ≡ gave_db b v.known.task (took_db b v) = is ∙ (λ i. gave_db b (e i).known.task (e i)) in record {
+        alive = ap (λ (z : LaneView). z.seat.spent) same ∙ bare.alive;
+        db = ap (λ (z : LaneView). z.locks.db) same;
+        cell = ap (λ (z : LaneView). z.locks.cell) same ∙ bare.cell;
+      }
+
+  pub free_kept : (g p : ℕ) (w u : LaneView) → w ≡ left_by f v → u ≡ given_back g p w → IsFree u
+  free_kept g p w u e is = let same = is ∙ ap (given_back g p) e in record {
+    alive = ap (λ (z : LaneView). z.seat.spent) same ∙ bare.alive;
+    db = ap (λ (z : LaneView). z.locks.db) same;
+    cell = ap (λ (z : LaneView). z.locks.cell) same ∙ bare.cell;
+  }
+
+  pub free_swept : (g p : ℕ) (w u : LaneView) → w ≡ left_by f v → u ≡ swept_back g p w → IsFree u
+  free_swept g p w u e is = let same = is ∙ ap (swept_back g p) e in record {
+    alive = ap (λ (z : LaneView). z.seat.spent) same ∙ bare.alive;
+    db = ap (λ (z : LaneView). z.locks.db) same;
+    cell = ap (λ (z : LaneView). z.locks.cell) same ∙ bare.cell;
   }

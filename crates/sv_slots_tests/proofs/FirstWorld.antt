@@ -15,11 +15,11 @@ use Rattle.sv_model.specs.declared.records.Version.{Version}
 use Rattle.sv_rule.specs.Begins.{FirstBooks}
 use Rattle.sv_slots_tests.specs.World.{no_list, no_version, memtable_of, other_family, super_of, top_of, world_books, world_disk}
 
-some_is : {A : Type 0} {x y : A} → Some x ≡ Some y → x ≡ y
+pub some_is : {A : Type 0} {x y : A} → Some x ≡ Some y → x ≡ y
 some_is e = cc
 
 -- what holds of each of the four
-by-four : {A : Type 0} (a b c d : A) (P : ℕ → A → Type 0) → P 0 a → P 1 b → P 2 c → P 3 d → (i : ℕ) (y : A)
+pub by-four : {A : Type 0} (a b c d : A) (P : ℕ → A → Type 0) → P 0 a → P 1 b → P 2 c → P 3 d → (i : ℕ) (y : A)
     → slice_get (a ∷ b ∷ c ∷ d ∷ []) i ≡ Some y → P i y
 by-four a b c d P pa pb pc pd zero y e = subst (P 0) (some_is e) pa
 by-four a b c d P pa pb pc pd (suc zero) y e = subst (P 1) (some_is e) pb

@@ -3,3 +3,5 @@ pub mod Bodies
 pub mod Cells
 pub mod CachingLane
 pub mod OpenedLanes
+pub mod Changes
+pub mod Sweeps

@@ -1,2 +1,4 @@
 pub mod World
+pub mod Stages
 pub mod Unused
+pub mod Sweeping

@@ -1,5 +1,5 @@
 -- Lanes that have nothing, and a lane that can borrow.
-use Rattle.std.specs.Prelude.{◌≡◌, ◌<◌, ℕ, List, length}
+use Rattle.std.specs.Prelude.{◌≡◌, ◌<◌, ℕ, List, [], length}
 use Rattle.atomic_table.specs.Seated.{TableId}
 use Rattle.sv_model.specs.Lists.{Every}
 use Rattle.sv_rule.specs.SeatPlays.{IsIdle}
@@ -20,3 +20,10 @@ IsUnused t seat = CameWith t seat × IsIdle (view_of seat)
 
 abbrev pub AreUnused : {P S D C B : Type 0} {g : Ghosts P S D C B} → TableId → List (LaneSeat P S D C B g) → Type 0
 AreUnused t seats = Every (IsUnused t) seats
+
+-- the lane's table has so many lanes, and no seat was joined into the lane's
+abbrev pub IsAlone : {P S D C B : Type 0} {g : Ghosts P S D C B} → ℕ → LaneSeat P S D C B g → Type 0
+IsAlone lanes seat = ((view_of seat).seat.lanes ≡ lanes) × ((view_of seat).joined ≡ [])
+
+abbrev pub AreAlone : {P S D C B : Type 0} {g : Ghosts P S D C B} → ℕ → List (LaneSeat P S D C B g) → Type 0
+AreAlone lanes seats = Every (IsAlone lanes) seats

@@ -2,8 +2,10 @@
 ghost use Rattle.std.specs.Prelude.{◌<◌, IfOk};
 ghost use Rattle.sv_rule.specs.SeatPlays.{IsIdle};
 ghost use Rattle.sv_slots.specs.Known.{CameWith, IsSameSeat, table_of, view_of};
+ghost use Rattle.sv_slots_tests.specs.Sweeping.{IsFree};
 ghost use Rattle.sv_slots_tests.specs.Unused.{CanBorrow};
 
+use crate::stages::Stage;
 use crate::world::{Shared, World};
 use std::alloc::{AllocFailed, Global};
 use std::marker::Brand;
@@ -15,6 +17,8 @@ use sv_slots::{Back, Core, LaneSeat};
 #[derive(Debug, Drop)]
 pub enum Unfilled {
     OutOfMemory,
+    /// The books are no longer those of the opening.
+    Late,
     /// A sweep was there.
     Swept,
 }
@@ -37,6 +41,7 @@ pub fn fill<R: Wait>(
     requires family { family < 4 }
     requires unused { IsIdle (view_of seat.old) }
     ensures same { IsSameSeat seat.old seat.new }
+    ensures free { IsFree (view_of seat.new) }
     ensures ok { IfOk result (λ _. CanBorrow family (view_of seat.new)) }
 {
     let current = SvRef {
@@ -47,12 +52,16 @@ pub fn fill<R: Wait>(
         body: Arc::new(alloc, Shared { family })?,
     };
     let state = core.take_state(rt, seat);
-    let Ok(fresh) = core.add_ref(seat, &current) else {
+    let Stage::Opened = state else {
         core.give_state::<Brand>(seat, state);
+        return Err(Unfilled::Late);
+    };
+    let Ok(fresh) = core.add_ref(seat, &current) else {
+        core.give_state::<Brand>(seat, Stage::Opened);
         return Err(Unfilled::OutOfMemory);
     };
     let borrow = core.borrow_locked(seat, FamilyId(family), fresh);
-    core.give_state::<Brand>(seat, state);
+    core.give_state::<Brand>(seat, Stage::Opened);
     match core.give_back(seat, borrow) {
         Back::Kept => Ok(()),
         Back::Swept(_) => Err(Unfilled::Swept),

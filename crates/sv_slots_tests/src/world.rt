@@ -1,6 +1,8 @@
-// A database whose books never change.
-ghost use Rattle.sv_slots_tests.specs.World.{body_of, cell_at, world_books, world_disk};
+// A database with few books.
+ghost use Rattle.sv_slots_tests.specs.Stages.{books_at};
+ghost use Rattle.sv_slots_tests.specs.World.{body_of, cell_at, world_disk};
 
+use crate::stages::Stage;
 use sv_rule::Parts;
 
 /// So many families there are.
@@ -8,10 +10,6 @@ pub const FAMILIES: u8 = 4;
 
 /// The types of the database.
 pub struct World;
-
-/// The state.
-#[derive(Drop)]
-pub struct Still;
 
 /// The directory.
 #[derive(Drop)]
@@ -30,7 +28,7 @@ pub struct Shared {
 }
 
 impl Parts for World {
-    type State = Still;
+    type State = Stage;
 
     type Dir = Nowhere;
 
@@ -38,7 +36,7 @@ impl Parts for World {
 
     type Body = Shared;
 
-    ghost books = { λ _. world_books };
+    ghost books = { books_at };
 
     ghost disk = { λ _. world_disk };
 
