@@ -30,27 +30,22 @@ fn installs_and_cleans(rt: HostRuntime) -> Result<(), Fail> {
     Ok(())
 }
 
-// The other lane borrows before the sweep: it is told the new number, and has the old reference.
+// The other lane borrows before the sweep: it is told the new number, and has the old reference, which is the last.
 #[test]
 fn tells_of_a_stale_slot(rt: HostRuntime) -> Result<(), Fail> {
     let (core, mut first, mut second) = double(rt.alloc())?;
     fill(&rt, rt.alloc(), &core, &mut second, 0)?;
     let new = reference(rt.alloc(), 5, 4, 0)?;
+    let old = reference(rt.alloc(), 1, 0, 0)?;
     begin(&rt, &core, &mut first, &new);
     let Err(Miss::Stale { cached, now }) = core.try_borrow(&mut second, FamilyId(0)) else {
         return Err(Fail::from("not stale"));
     };
     assert_eq!(rt; (cached.pack, now), (OLD, 1284));
-    assert!(rt; matches!(core.drop_ref(&mut second, cached), Sub::More));
     assert!(rt; !pass(&core, &mut first, Stage::Installed, 0));
     assert!(rt; !pass(&core, &mut first, Stage::Installed, 1));
-    let old = reference(rt.alloc(), 1, 0, 0)?;
-    assert!(rt;
-        matches!(
-            finish(&core, &mut first, Stage::Installed, old),
-            Sub::Last(_)
-        )
-    );
+    assert!(rt; matches!(finish(&core, &mut first, Stage::Installed, old), Sub::More));
+    assert!(rt; matches!(core.drop_ref(&mut second, cached), Sub::Last(_)));
     Ok(())
 }
 
