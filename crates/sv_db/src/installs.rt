@@ -31,7 +31,7 @@ fn sweep_one<D: Dir + Drop>(
 }
 
 // The slots of all lanes are swept, and then the old reference is dropped.
-fn sweep_all<D: Dir + Drop, R: Wait>(
+pub(crate) fn sweep_all<D: Dir + Drop, R: Wait>(
     rt: &R,
     db: &Db<D>,
     seat: &mut Seat<D>,

@@ -2,7 +2,9 @@
 use crate::parts::Database;
 use std::alloc::Global;
 use sv_dir::Dir;
-use sv_slots::{Core, LaneSeat};
+use sv_model::SvRef;
+use sv_objects::Body;
+use sv_slots::{Core, Counts, LaneSeat};
 
 /// A database. Its lanes share it.
 #[derive(Drop)]
@@ -17,4 +19,12 @@ pub struct Local<D: Dir + Drop> {
     pub(crate) alloc: Global,
     pub(crate) lane: u8,
     pub(crate) seat: LaneSeat<Database<D>>,
+    pub(crate) pins: Vec<Option<SvRef<Body>>>,
+}
+
+impl<D: Dir + Drop> Local<D> {
+    /// How often the lane borrowed, missed, and met a sweep.
+    pub fn counts(&self, db: &Db<D>) -> Counts {
+        db.core.counts(&self.seat)
+    }
 }

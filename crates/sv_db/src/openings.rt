@@ -1,12 +1,22 @@
 // A database that opens.
 use crate::local::{Db, Local};
+use crate::pins::MAX_PINS;
 use crate::parts::{Database, Folder, Held, Slot};
 use std::alloc::Global;
 use sv_dir::Dir;
 use sv_memtable::MemCell;
-use sv_model::{FileNumber, MAX_CELLS, MemId, OutOfMemory};
+use sv_model::{FileNumber, MAX_CELLS, MemId, OutOfMemory, SvRef};
+use sv_objects::Body;
 use sv_slots::Core;
 use sv_state::State;
+
+fn no_pins(alloc: Global) -> Result<Vec<Option<SvRef<Body>>>, OutOfMemory> {
+    let mut pins = Vec::with_capacity(alloc, MAX_PINS)?;
+    while pins.len() < MAX_PINS {
+        pins.push(None)?;
+    }
+    Ok(pins)
+}
 
 fn memtable(alloc: Global, id: MemId) -> Result<Slot, OutOfMemory> {
     let Ok(memtable) = Box::new(alloc, MemCell::new(alloc, id)) else {
@@ -50,7 +60,13 @@ pub fn open_db<D: Dir + Drop>(
     let mut lane = 0;
     while seats.len() > 0 {
         let seat = seats.remove(0);
-        locals.push(Local { alloc, lane, seat })?;
+        let pins = no_pins(alloc)?;
+        locals.push(Local {
+            alloc,
+            lane,
+            seat,
+            pins,
+        })?;
         lane += 1;
     }
     Ok((Db { core, lanes }, locals))

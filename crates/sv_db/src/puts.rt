@@ -70,9 +70,31 @@ impl<D: Dir + Drop> Local<D> {
         key: Key,
         value: Value,
     ) -> Result<u64, Refusal> {
-        let mut held = db.core.take_state(rt, &mut self.seat);
         let op = Op::Put(value);
-        let answer = self.write_locked(rt, db, &mut held, name, Row { key, op });
+        self.write(rt, db, name, Row { key, op })
+    }
+
+    /// Accepts a delete; else as `put`.
+    pub fn delete<R: Wait>(
+        &mut self,
+        rt: &R,
+        db: &Db<D>,
+        name: &Name,
+        key: Key,
+    ) -> Result<u64, Refusal> {
+        let op = Op::Delete;
+        self.write(rt, db, name, Row { key, op })
+    }
+
+    fn write<R: Wait>(
+        &mut self,
+        rt: &R,
+        db: &Db<D>,
+        name: &Name,
+        row: Row,
+    ) -> Result<u64, Refusal> {
+        let mut held = db.core.take_state(rt, &mut self.seat);
+        let answer = self.write_locked(rt, db, &mut held, name, row);
         db.core.give_state::<Brand>(&mut self.seat, held);
         answer
     }

@@ -1,11 +1,12 @@
 // Puts and gets of two lanes.
 use crate::local::{Db, Local};
+use crate::closes::close;
 use crate::openings::open_db;
 use std::alloc::Global;
 use std::rt::HostRuntime;
 use std::test::Fail;
 use sv_dir::MemDir;
-use sv_model::{FamilyId, Key, Name, SvSerial, Value};
+use sv_model::{End, FamilyId, Key, Name, OptionName, Refusal, SvSerial, Value};
 
 fn key(alloc: Global, byte: u8) -> Result<Key, Fail> {
     Ok(Key::new(alloc, &[byte])?)
@@ -51,5 +52,29 @@ fn reads_over_a_switch(rt: HostRuntime) -> Result<(), Fail> {
     assert_eq!(rt; (got.cut, got.sv), (1025, SvSerial(2)));
     let counts = db.core.counts(&second.seat);
     assert_eq!(rt; (counts.uses, counts.misses, counts.swept), (11, 2, 0));
+    Ok(())
+}
+
+#[test]
+fn pins_as_many_as_there_are_places(rt: HostRuntime) -> Result<(), Fail> {
+    let alloc = rt.alloc();
+    let dir = MemDir::new(alloc, Vec::new(alloc), Vec::new(alloc))?;
+    let (db, mut locals) = open_db(alloc, 16, dir, 1)?;
+    let name = Name::new(b"default").ok_or("name")?;
+    let option = OptionName::MaxImmutable;
+    for n in 0..255u32 {
+        let pinned = locals[(n / 16) as usize].pin(&rt, &db, FamilyId(0))?;
+        assert_eq!(rt; pinned, ((n % 16) as u8, SvSerial(n + 1)));
+        let set = locals[0].set_option(&rt, &db, &name, option, 2)?;
+        assert_eq!(rt; set, SvSerial(n + 2));
+    }
+    let set = locals[0].set_option(&rt, &db, &name, option, 2);
+    assert_eq!(rt; set, Err(Refusal::TooManyLive));
+    locals[0].unpin(&rt, &db, 0)?;
+    let set = locals[0].set_option(&rt, &db, &name, option, 2)?;
+    assert_eq!(rt; set, SvSerial(257));
+    let (held, _folder) = close(&rt, db, locals, Vec::new(alloc));
+    let summary = held.state.summary(End::Clean)?;
+    assert_eq!(rt; (summary.made.superversions, summary.gone.superversions), (257, 257));
     Ok(())
 }
