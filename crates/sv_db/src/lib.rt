@@ -18,6 +18,8 @@ mod switches;
 
 #[cfg(test)]
 mod tests;
+#[cfg(test)]
+mod thread_tests;
 
 pub use closes::close;
 pub use local::{Db, Local};
