@@ -55,8 +55,8 @@ due_flush-requires c =
     let x = meant-so a c.args.self.now.books (ap (λ (z : StateSeen). z.books) c.self.view_is) lane name f c.in-Ok.ensures.found c.requires.current in
     meant-within a i.held.items c.self.invariant lane name f x
 
-pub returns-in-Err-due_flush : goal.returns-in-Err-due_flush
-returns-in-Err-due_flush c =
+pub returns-in-Err-due_flush-clause-planned : goal.returns-in-Err-due_flush-clause-planned
+returns-in-Err-due_flush-clause-planned c =
     let i = c.self.inside in
     let a : Books = books_of i in
     let k = c.self.invariant.sound in
@@ -72,8 +72,8 @@ returns-in-Err-due_flush c =
     let due_is : flush_due a.files f a.supers a.memtables (c.written.result - old.descriptor.base) (length c.as_slice-members.result.now) ≡ flush_refusal a m = λ j. flush_due a.files f a.supers a.memtables (rows j) (members j) in
     subst (λ (z : StateSeen). Planned z.books lane name (flush_refusal z.books) (IsFlushPlan z.books) (Err c.in-Err-due_flush.refusal)) c.self.view_is (inr (m, due-exactly (flush_refusal a m) c.in-Err-due_flush.refusal (sym due_is ∙ c.in-Err-due_flush.ensures.refused), tt))
 
-pub returns : goal.returns
-returns c =
+pub returns-clause-planned : goal.returns-clause-planned
+returns-clause-planned c =
     let i = c.self.inside in
     let a : Books = books_of i in
     let k = c.self.invariant.sound in
