@@ -1,9 +1,9 @@
 // Scans of a directory that holds files of earlier runs.
-use crate::directories::{dir_of, expect_names};
+use crate::directories::{dir_of, expect_names, failing_dir_of};
 use crate::runs::expect_over;
 use std::fs;
 use std::test::Fail as Failure;
-use sv_dir::RealDir;
+use sv_dir::{How, RealDir};
 
 const STANDING: [(&str, &str); 4] = [
     ("000001.sst", "one"),
@@ -48,4 +48,46 @@ fn scans_a_folder(rt: HostRuntime) -> Result<(), Failure> {
     let dir = RealDir::new(rt, alloc, "scans".to_string(alloc)?);
     let mut dir = expect_over(&rt, alloc, SCAN, dir, 0, SCAN_REPORT)?;
     expect_names(&rt, alloc, &mut dir, SCANNED)
+}
+
+// Above the file that stands there is no number left for one more.
+#[test]
+fn has_no_number_above_the_last(rt: HostRuntime) -> Result<(), Failure> {
+    let alloc = rt.alloc();
+    let script = "1 put default a 1\n1 flush default\n1 get default a\n1 scan\n1 flush default\n";
+    let report = "lane 1
+1 ok put 1
+2 refused 4 RegisterFull
+3 found 1 cut 1 sv 1
+4 ok scan 18446744073709551614
+5 refused 4 RegisterFull
+lane 1 uses 0 misses 0 swept 0
+family 0 default live writes 1 files none
+made superversions 1 memtables 1 files 0
+gone superversions 1 memtables 1 files 0
+strays seen 1 gone 1
+end clean
+";
+    let dir = dir_of(alloc, &[("18446744073709551614.sst", "last")])?;
+    let mut dir = expect_over(&rt, alloc, script, dir, 0, report)?;
+    expect_names(&rt, alloc, &mut dir, "")
+}
+
+// The opening and the scan list; the first removal fails and leaves its file, which the purge then removes.
+#[test]
+fn tries_a_stray_again(rt: HostRuntime) -> Result<(), Failure> {
+    let alloc = rt.alloc();
+    let report = "lane 1
+1 refused 21 DirFault 1
+2 ok purge 1
+lane 1 uses 0 misses 0 swept 0
+family 0 default live writes 0 files none
+made superversions 1 memtables 1 files 0
+gone superversions 1 memtables 1 files 0
+strays seen 2 gone 2
+end clean
+";
+    let dir = failing_dir_of(alloc, &STANDING, &[(3, How::Before)])?;
+    let mut dir = expect_over(&rt, alloc, "1 scan\n1 purge\n", dir, 0, report)?;
+    expect_names(&rt, alloc, &mut dir, "1.sst notes ")
 }
