@@ -1,4 +1,3 @@
-mod CommandFiles
 mod CompactAnswers
 mod FamilyAnswers
 mod FlushAnswers
@@ -19,5 +18,6 @@ mod RefusalCases
 mod ReleaseAnswers
 mod ScanAnswers
 mod SetAnswers
+mod StepLemmas
 mod ToldFiles
 mod WriteAnswers

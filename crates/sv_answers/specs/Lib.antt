@@ -1,2 +1,3 @@
 pub mod Answered
 pub mod Run
+pub mod Steps

@@ -1,11 +1,7 @@
--- Which commands ask nothing of the directory, and what the others tell of its files.
+-- Which commands ask nothing of the directory.
 use Rattle.std.specs.Prelude.{Bool, true, false, T}
-use Rattle.sv_model.specs.Books.{FileRegister}
-use Rattle.sv_store.specs.Removals.{DirSeen}
 use Rattle.sv_script.specs.declared.commands.Command.{Command}
-use Rattle.sv_script.specs.declared.commands.Command.TheVariants.{Create, Delete, Drop, Hold, Live, Open, Purge, Put, Release, Scan, Set, Snap, Unhold, Unsnap}
-use Rattle.sv_script.specs.declared.replies.Reply.{Reply}
-use Rattle.sv_answers.specs.Answered.{TellsPurge, TellsScan}
+use Rattle.sv_script.specs.declared.commands.Command.TheVariants.{Create, Delete, Drop, Hold, Live, Open, Put, Release, Set, Snap, Unhold, Unsnap}
 
 -- the commands that ask nothing of the directory
 abbrev pub asks_none : Command → Bool
@@ -25,9 +21,3 @@ asks_none command = false
 
 abbrev pub AsksNone : Command → Type 0
 AsksNone command = T (asks_none command)
-
--- what a purge or a scan did to the file register and the directory, as its reply tells it
-abbrev pub TellsFiles : Command → FileRegister → FileRegister → DirSeen → Reply → Type 0
-TellsFiles Purge old new d reply = TellsPurge old new d reply
-TellsFiles Scan old new d reply = TellsScan old new d reply
-TellsFiles command old new d reply = Unit {0}

@@ -4,7 +4,8 @@ ghost use Rattle.sv_script.specs.Built.{IsBuilt};
 ghost use Rattle.sv_state.specs.Follows.{Follows};
 ghost use Rattle.sv_replies.specs.Makes.{Makes, draws_by};
 ghost use Rattle.sv_answers.specs.Answered.{CountsReply, IsAnswered, IsHeld, KeepsHeld, KeepsOthers, LeavesOthers, TellsNoFault};
-ghost use Rattle.sv_answers.specs.Run.{AsksNone, TellsFiles};
+ghost use Rattle.sv_answers.specs.Run.{AsksNone};
+ghost use Rattle.sv_answers.specs.Steps.{Steps, StepsAlone};
 
 use crate::compactions::compact;
 use crate::families::{create, drop_family, open, release};
@@ -26,6 +27,7 @@ use sv_store::Store;
 fn answer_in_memory(alloc: Global, store: &mut Store, command: &Command) -> Reply
     requires { AsksNone command.now }
     ensures answered { (told : Bool) → IsAnswered told store.old.books store.new.books command.now result }
+    ensures step { StepsAlone store.old store.new command.now result }
     ensures makes { Makes store.old.books store.new.books result 0 }
     ensures quiet { TellsNoFault result }
     ensures held { KeepsHeld store.old.books store.new.books }
@@ -60,8 +62,8 @@ fn answer_in_memory(alloc: Global, store: &mut Store, command: &Command) -> Repl
 pub fn answer<D: Dir>(alloc: Global, store: &mut Store, dir: &mut D, command: &Command) -> Reply
     requires built { IsBuilt command.now }
     ensures answered { IsHeld store.old.books (D.files dir.old) → IsAnswered (is_some (D.files dir.old)) store.old.books store.new.books command.now result }
+    ensures step { Steps store.old store.new (record { files = D.files dir.old; later = D.files dir.new; before = D.faults dir.old; now = D.faults dir.new }) command.now result }
     ensures makes { Makes store.old.books store.new.books result (draws_by command.now result) }
-    ensures files { TellsFiles command.now store.old.books.files store.new.books.files (record { files = D.files dir.old; later = D.files dir.new; before = D.faults dir.old; now = D.faults dir.new }) result }
     ensures faults { CountsReply result (D.faults dir.old) (D.faults dir.new) }
     ensures held { IsHeld store.old.books (D.files dir.old) → IsHeld store.new.books (D.files dir.new) }
     ensures told { is_some (D.files dir.new) ≡ is_some (D.files dir.old) }

@@ -4,6 +4,7 @@ ghost use Rattle.sv_script.specs.declared.commands.Command.TheVariants as comman
 ghost use Rattle.sv_state.specs.Follows.{Follows};
 ghost use Rattle.sv_replies.specs.Makes.{Makes, begins_by};
 ghost use Rattle.sv_answers.specs.Answered.{CountsReply, IsAnswered, IsHeld, LeavesOthers};
+ghost use Rattle.sv_answers.specs.Steps.{TellsCompact};
 
 use sv_dir::Dir;
 use sv_model::Name;
@@ -13,6 +14,7 @@ use sv_store::Store;
 /// Answers `compact`.
 pub fn compact<D: Dir>(store: &mut Store, dir: &mut D, name: &Name) -> Reply
     ensures answered { IsHeld store.old.books (D.files dir.old) → IsAnswered (is_some (D.files dir.old)) store.old.books store.new.books (command.Compact name.now) result }
+    ensures compacted { TellsCompact store.old store.new (D.files dir.old) (D.files dir.new) name.now result }
     ensures makes { Makes store.old.books store.new.books result (begins_by result) }
     ensures faults { CountsReply result (D.faults dir.old) (D.faults dir.new) }
     ensures held { IsHeld store.old.books (D.files dir.old) → IsHeld store.new.books (D.files dir.new) }

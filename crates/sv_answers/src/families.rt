@@ -4,6 +4,7 @@ ghost use Rattle.sv_script.specs.declared.commands.Command.TheVariants as comman
 ghost use Rattle.sv_state.specs.Follows.{Follows};
 ghost use Rattle.sv_replies.specs.Makes.{Makes};
 ghost use Rattle.sv_answers.specs.Answered.{IsAnswered, KeepsHeld, KeepsOthers, TellsNoFault};
+ghost use Rattle.sv_answers.specs.Steps.{StepsAlone};
 
 use sv_model::Name;
 use sv_script::Reply;
@@ -12,6 +13,7 @@ use sv_store::Store;
 /// Answers `create`.
 pub fn create(store: &mut Store, name: &Name) -> Reply
     ensures answered { (told : Bool) → IsAnswered told store.old.books store.new.books (command.Create name.now) result }
+    ensures step { StepsAlone store.old store.new (command.Create name.now) result }
     ensures makes { Makes store.old.books store.new.books result 0 }
     ensures quiet { TellsNoFault result }
     ensures held { KeepsHeld store.old.books store.new.books }
@@ -28,6 +30,7 @@ pub fn create(store: &mut Store, name: &Name) -> Reply
 /// Answers `open`.
 pub fn open(store: &mut Store, name: &Name) -> Reply
     ensures answered { (told : Bool) → IsAnswered told store.old.books store.new.books (command.Open name.now) result }
+    ensures step { StepsAlone store.old store.new (command.Open name.now) result }
     ensures makes { Makes store.old.books store.new.books result 0 }
     ensures quiet { TellsNoFault result }
     ensures held { KeepsHeld store.old.books store.new.books }
@@ -44,6 +47,7 @@ pub fn open(store: &mut Store, name: &Name) -> Reply
 /// Answers `release`.
 pub fn release(store: &mut Store, name: &Name) -> Reply
     ensures answered { (told : Bool) → IsAnswered told store.old.books store.new.books (command.Release name.now) result }
+    ensures step { StepsAlone store.old store.new (command.Release name.now) result }
     ensures makes { Makes store.old.books store.new.books result 0 }
     ensures quiet { TellsNoFault result }
     ensures held { KeepsHeld store.old.books store.new.books }
@@ -60,6 +64,7 @@ pub fn release(store: &mut Store, name: &Name) -> Reply
 /// Answers `drop`.
 pub fn drop_family(store: &mut Store, name: &Name) -> Reply
     ensures answered { (told : Bool) → IsAnswered told store.old.books store.new.books (command.Drop name.now) result }
+    ensures step { StepsAlone store.old store.new (command.Drop name.now) result }
     ensures makes { Makes store.old.books store.new.books result 0 }
     ensures quiet { TellsNoFault result }
     ensures held { KeepsHeld store.old.books store.new.books }

@@ -4,6 +4,7 @@ ghost use Rattle.sv_script.specs.declared.commands.Command.TheVariants as comman
 ghost use Rattle.sv_state.specs.Follows.{Follows};
 ghost use Rattle.sv_replies.specs.Makes.{Makes};
 ghost use Rattle.sv_answers.specs.Answered.{IsAnswered, KeepsHeld, KeepsOthers, TellsNoFault};
+ghost use Rattle.sv_answers.specs.Steps.{StepsAlone};
 
 use sv_script::Reply;
 use sv_store::Store;
@@ -11,6 +12,7 @@ use sv_store::Store;
 /// Answers `hold`.
 pub fn hold(store: &mut Store) -> Reply
     ensures answered { (told : Bool) → IsAnswered told store.old.books store.new.books command.Hold result }
+    ensures step { StepsAlone store.old store.new command.Hold result }
     ensures makes { Makes store.old.books store.new.books result 0 }
     ensures quiet { TellsNoFault result }
     ensures held { KeepsHeld store.old.books store.new.books }
@@ -27,6 +29,7 @@ pub fn hold(store: &mut Store) -> Reply
 /// Answers `unhold`.
 pub fn unhold(store: &mut Store) -> Reply
     ensures answered { (told : Bool) → IsAnswered told store.old.books store.new.books command.Unhold result }
+    ensures step { StepsAlone store.old store.new command.Unhold result }
     ensures makes { Makes store.old.books store.new.books result 0 }
     ensures quiet { TellsNoFault result }
     ensures held { KeepsHeld store.old.books store.new.books }

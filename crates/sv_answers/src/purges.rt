@@ -4,6 +4,7 @@ ghost use Rattle.sv_script.specs.declared.commands.Command.TheVariants as comman
 ghost use Rattle.sv_state.specs.Follows.{Follows};
 ghost use Rattle.sv_replies.specs.Makes.{Makes};
 ghost use Rattle.sv_answers.specs.Answered.{CountsReply, IsAnswered, IsHeld, LeavesOthers, TellsPurge};
+ghost use Rattle.sv_answers.specs.Steps.{KeepsRest};
 
 use sv_dir::Dir;
 use sv_model::Items;
@@ -13,6 +14,7 @@ use sv_store::Store;
 /// Answers `purge`. The numbers of the reply are just those that were Obsolete and below the bound.
 pub fn purge<D: Dir>(store: &mut Store, dir: &mut D) -> Reply
     ensures answered { (told : Bool) → IsAnswered told store.old.books store.new.books command.Purge result }
+    ensures rest { KeepsRest store.old store.new }
     ensures makes { Makes store.old.books store.new.books result 0 }
     ensures purged { TellsPurge store.old.books.files store.new.books.files (record { files = D.files dir.old; later = D.files dir.new; before = D.faults dir.old; now = D.faults dir.new }) result }
     ensures faults { CountsReply result (D.faults dir.old) (D.faults dir.new) }

@@ -4,6 +4,7 @@ ghost use Rattle.sv_script.specs.declared.commands.Command.TheVariants as comman
 ghost use Rattle.sv_state.specs.Follows.{Follows};
 ghost use Rattle.sv_replies.specs.Makes.{Makes};
 ghost use Rattle.sv_answers.specs.Answered.{CountsReply, IsAnswered, IsHeld, LeavesOthers, TellsScan};
+ghost use Rattle.sv_answers.specs.Steps.{KeepsRest};
 
 use sv_dir::Dir;
 use sv_model::Items;
@@ -14,6 +15,7 @@ use sv_store::Store;
 /// listing.
 pub fn scan<D: Dir>(store: &mut Store, dir: &mut D) -> Reply
     ensures answered { (told : Bool) → IsAnswered told store.old.books store.new.books command.Scan result }
+    ensures rest { KeepsRest store.old store.new }
     ensures makes { Makes store.old.books store.new.books result 0 }
     ensures scanned { TellsScan store.old.books.files store.new.books.files (record { files = D.files dir.old; later = D.files dir.new; before = D.faults dir.old; now = D.faults dir.new }) result }
     ensures faults { CountsReply result (D.faults dir.old) (D.faults dir.new) }

@@ -4,6 +4,7 @@ ghost use Rattle.sv_script.specs.declared.commands.Command.TheVariants as comman
 ghost use Rattle.sv_state.specs.Follows.{Follows};
 ghost use Rattle.sv_replies.specs.Makes.{Makes};
 ghost use Rattle.sv_answers.specs.Answered.{IsAnswered, KeepsHeld, KeepsOthers, TellsNoFault};
+ghost use Rattle.sv_answers.specs.Steps.{StepsAlone};
 
 use sv_script::Reply;
 use sv_store::Store;
@@ -11,6 +12,7 @@ use sv_store::Store;
 /// Answers `snap`.
 pub fn snap(store: &mut Store) -> Reply
     ensures answered { (told : Bool) → IsAnswered told store.old.books store.new.books command.Snap result }
+    ensures step { StepsAlone store.old store.new command.Snap result }
     ensures makes { Makes store.old.books store.new.books result 0 }
     ensures quiet { TellsNoFault result }
     ensures held { KeepsHeld store.old.books store.new.books }
@@ -27,6 +29,7 @@ pub fn snap(store: &mut Store) -> Reply
 /// Answers `unsnap`.
 pub fn unsnap(store: &mut Store, snapshot: u64) -> Reply
     ensures answered { (told : Bool) → IsAnswered told store.old.books store.new.books (command.Unsnap snapshot) result }
+    ensures step { StepsAlone store.old store.new (command.Unsnap snapshot) result }
     ensures makes { Makes store.old.books store.new.books result 0 }
     ensures quiet { TellsNoFault result }
     ensures held { KeepsHeld store.old.books store.new.books }

@@ -5,6 +5,7 @@ ghost use Rattle.sv_script.specs.declared.commands.Command.TheVariants as comman
 ghost use Rattle.sv_state.specs.Follows.{Follows};
 ghost use Rattle.sv_replies.specs.Makes.{Makes};
 ghost use Rattle.sv_answers.specs.Answered.{IsAnswered, KeepsHeld, KeepsOthers, TellsNoFault};
+ghost use Rattle.sv_answers.specs.Steps.{StepsAlone};
 
 use std::alloc::Global;
 use sv_model::{Key, Name, Refusal, Value};
@@ -24,6 +25,7 @@ fn row_of(alloc: Global, key: &[u8], value: &[u8]) -> Result<(Key, Value), Refus
 /// Answers `put`. Refused first for its key and its value.
 pub fn put(alloc: Global, store: &mut Store, name: &Name, key: &[u8], value: &[u8]) -> Reply
     ensures answered { (told : Bool) → IsAnswered told store.old.books store.new.books (command.Put name.now key.now value.now) result }
+    ensures step { StepsAlone store.old store.new (command.Put name.now key.now value.now) result }
     ensures makes { Makes store.old.books store.new.books result 0 }
     ensures quiet { TellsNoFault result }
     ensures held { KeepsHeld store.old.books store.new.books }
@@ -43,6 +45,7 @@ pub fn put(alloc: Global, store: &mut Store, name: &Name, key: &[u8], value: &[u
 /// Answers `delete`. Refused first for its key.
 pub fn delete(alloc: Global, store: &mut Store, name: &Name, key: &[u8]) -> Reply
     ensures answered { (told : Bool) → IsAnswered told store.old.books store.new.books (command.Delete name.now key.now) result }
+    ensures step { StepsAlone store.old store.new (command.Delete name.now key.now) result }
     ensures makes { Makes store.old.books store.new.books result 0 }
     ensures quiet { TellsNoFault result }
     ensures held { KeepsHeld store.old.books store.new.books }

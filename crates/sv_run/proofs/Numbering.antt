@@ -9,7 +9,7 @@ use Rattle.std.proofs.lemmas.Bool.Decides.{nat_tests}
 use Rattle.std.proofs.lemmas.List.{map-append, take_more}
 use Rattle.std.proofs.lemmas.Option.{cond_some}
 use Rattle.std.proofs.lemmas.Str.Parse.{IsNumeralModel, numerals_by_value, tells_all_ascii_digits, digits_value_short}
-use Rattle.sv_model.proofs.Entries.{get_one, in-left, in-right, in_append, some}
+use Rattle.sv_model.proofs.Entries.{get_one, in-left, in-right, in-suc, in_append, some}
 use Rattle.sv_model.proofs.KeyOrder.{same_eq, same_yes}
 use Rattle.sv_model.specs.Files.{Files, suffix}
 use Rattle.sv_model.specs.Lists.{In}
@@ -74,18 +74,18 @@ pub first-more : (names : List (String Global)) (i first after more : ℕ) (s : 
 first-more names i first after more s lt is h least none next old new which =
     subst (IsFirstOf more)
     (sym (map-append string_bytes (take i names) (s ∷ []))
-    ∙ ap (map string_bytes) (ap (λ (z : String Global). take i names ++ z ∷ []) is ∙ sym (take_more i names s lt)))
+    ∙ ap (map string_bytes) (ap (λ (z : String Global). take i names ++ z ∷ []) is ∙ sym (take_more names i s lt)))
     (first-push (map string_bytes (take i names)) (string_bytes s) first after more h least none next old new which)
 
 -- ---- the names of a listing
 
 any-in : (name : List ℕ) (l : List (List ℕ)) → list_any (same_name name) l ≡ true → In name l
 any-in name [] h = absurd (cc)
-any-in name (x ∷ l) h = by (same_name name x) refl h
+any-in name (x ∷ l) h = by (any-in name l) (same_name name x) refl h
   where
-    by : (b : Bool) → same_name name x ≡ b → (b || list_any (same_name name) l) ≡ true → In name (x ∷ l)
-    by true is any = record { at = 0; is = ap Some (sym (same_eq name x is)) }
-    by false is any = let later = any-in name l any in record { at = suc later.at; is = later.is }
+    by : (list_any (same_name name) l ≡ true → In name l) → (b : Bool) → same_name name x ≡ b → (b || list_any (same_name name) l) ≡ true → In name (x ∷ l)
+    by later true is any = record { at = 0; is = ap Some (sym (same_eq name x is)) }
+    by later false is any = in-suc name x l (later any)
 
 in-any : (name : List ℕ) (l : List (List ℕ)) (i : ℕ) → slice_get l i ≡ Some name → list_any (same_name name) l ≡ true
 in-any name [] zero h = absurd (cc)

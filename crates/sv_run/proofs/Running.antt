@@ -74,6 +74,10 @@ files-left first closed (Some before) (Some after) held others = record {
   others = others.stay;
 }
 
+-- before the first line no number is Live
+pub none-held : (first : ℕ) (told : Option Files) → IsHeld (opening_books first) told
+none-held first told all is n live = absurd (entry_none live.0 live.1 live.2)
+
 -- ---- the run
 
 -- what the close does to the store, and to the directory that had these files and has those

@@ -51,6 +51,7 @@ pub fn run_script<D: Dir>(
     let replies = Vec::with_capacity(alloc, lines.len())?;
     let lanes = Vec::with_capacity(alloc, 1)?;
     let mut store = Store::new(alloc, first.0)?;
+    store.laws();
     let replies = play(alloc, &mut store, dir, lines, replies);
     let closed = store.close(dir);
     Ok(Done {

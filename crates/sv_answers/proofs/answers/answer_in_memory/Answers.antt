@@ -5,6 +5,7 @@ use Rattle.sv_script.specs.declared.commands.Command.TheVariants as command
 use Rattle.sv_state.specs.Follows.{Follows}
 use Rattle.sv_store.specs.Seen.{StoreSeen}
 use Rattle.sv_replies.specs.Answers.{Answers}
+use Rattle.sv_answers.specs.Steps.{StepsAlone}
 use Rattle.sv_answers.specs.Answered.{KeepsHeld, alone}
 use Rattle.sv_answers.proofs.HeldAnswers.{same-others}
 use Rattle.sv_answers.proofs.answers.answer_in_memory.Goals as goal
@@ -78,3 +79,60 @@ returns-in-Live-clause-held c =
 
 pub returns-in-Live-clause-others : goal.returns-in-Live-clause-others
 returns-in-Live-clause-others c = same-others c.args.store.now c.live.new.store c.live.ensures.kept
+
+pub returns-in-Put-clause-step : goal.returns-in-Put-clause-step
+returns-in-Put-clause-step c =
+    let a = c.args.store.now in
+    let b = c.put.new.store in
+    subst (λ (z : Command). StepsAlone a b z c.put.result) (sym c.in-Put.is)
+    (subst (λ (y : List ℕ). StepsAlone a b (command.Put c.in-Put.family y c.in-Put.value) c.put.result) c.as_slice.ensures
+    (subst (λ (v : List ℕ). StepsAlone a b (command.Put c.in-Put.family c.as_slice.result.now v) c.put.result) c.as_slice-in-Put.ensures
+    c.put.ensures.step))
+
+pub returns-in-Delete-clause-step : goal.returns-in-Delete-clause-step
+returns-in-Delete-clause-step c =
+    let a = c.args.store.now in
+    let b = c.delete.new.store in
+    subst (λ (z : Command). StepsAlone a b z c.delete.result) (sym c.in-Delete.is)
+    (subst (λ (y : List ℕ). StepsAlone a b (command.Delete c.in-Delete.family y) c.delete.result) c.as_slice-in-Delete.ensures
+    c.delete.ensures.step)
+
+pub returns-in-Create-clause-step : goal.returns-in-Create-clause-step
+returns-in-Create-clause-step c =
+    subst (λ (z : Command). StepsAlone c.args.store.now c.create.new.store z c.create.result) (sym c.in-Create.is) c.create.ensures.step
+
+pub returns-in-Open-clause-step : goal.returns-in-Open-clause-step
+returns-in-Open-clause-step c =
+    subst (λ (z : Command). StepsAlone c.args.store.now c.open.new.store z c.open.result) (sym c.in-Open.is) c.open.ensures.step
+
+pub returns-in-Release-clause-step : goal.returns-in-Release-clause-step
+returns-in-Release-clause-step c =
+    subst (λ (z : Command). StepsAlone c.args.store.now c.release.new.store z c.release.result) (sym c.in-Release.is) c.release.ensures.step
+
+pub returns-in-Drop-clause-step : goal.returns-in-Drop-clause-step
+returns-in-Drop-clause-step c =
+    subst (λ (z : Command). StepsAlone c.args.store.now c.drop_family.new.store z c.drop_family.result) (sym c.in-Drop.is) c.drop_family.ensures.step
+
+pub returns-in-Set-clause-step : goal.returns-in-Set-clause-step
+returns-in-Set-clause-step c =
+    subst (λ (z : Command). StepsAlone c.args.store.now c.set.new.store z c.set.result) (sym c.in-Set.is) c.set.ensures.step
+
+pub returns-in-Hold-clause-step : goal.returns-in-Hold-clause-step
+returns-in-Hold-clause-step c =
+    subst (λ (z : Command). StepsAlone c.args.store.now c.hold.new.store z c.hold.result) (sym c.in-Hold.is) c.hold.ensures.step
+
+pub returns-in-Unhold-clause-step : goal.returns-in-Unhold-clause-step
+returns-in-Unhold-clause-step c =
+    subst (λ (z : Command). StepsAlone c.args.store.now c.unhold.new.store z c.unhold.result) (sym c.in-Unhold.is) c.unhold.ensures.step
+
+pub returns-in-Snap-clause-step : goal.returns-in-Snap-clause-step
+returns-in-Snap-clause-step c =
+    subst (λ (z : Command). StepsAlone c.args.store.now c.snap.new.store z c.snap.result) (sym c.in-Snap.is) c.snap.ensures.step
+
+pub returns-in-Unsnap-clause-step : goal.returns-in-Unsnap-clause-step
+returns-in-Unsnap-clause-step c =
+    subst (λ (z : Command). StepsAlone c.args.store.now c.unsnap.new.store z c.unsnap.result) (sym c.in-Unsnap.is) c.unsnap.ensures.step
+
+pub returns-in-Live-clause-step : goal.returns-in-Live-clause-step
+returns-in-Live-clause-step c =
+    subst (λ (z : Command). StepsAlone c.args.store.now c.live.new.store z c.live.result) (sym c.in-Live.is) c.live.ensures.kept

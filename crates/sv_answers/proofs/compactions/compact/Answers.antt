@@ -1,3 +1,4 @@
+use Rattle.std.proofs.Common.{refl}
 use Rattle.sv_answers.proofs.ToldFiles.{compact-stop-told, compact-told}
 use Rattle.std.specs.Prelude.{Ok, Err}
 use Rattle.sv_answers.proofs.CompactAnswers.{compact-replies}
@@ -33,3 +34,7 @@ returns-in-Ok-clause-makes g c =
 pub returns-in-Err-clause-makes : goal.returns-in-Err-clause-makes
 returns-in-Err-clause-makes g c =
     compact-refused c.args.store.now c.compact.new.self (g.D.Dir.files c.args.dir.now) (g.D.Dir.files c.compact.new.dir) c.args.name.now c.in-Err.refusal c.in-Err.ensures.refused
+
+pub returns-in-Ok-clause-compacted : goal.returns-in-Ok-clause-compacted
+returns-in-Ok-clause-compacted g c =
+    record { file = c.in-Ok.file; compacts = c.in-Ok.ensures.compacted; number_is = refl; from_is = refl; to_is = refl }

@@ -52,3 +52,9 @@ pub returns-in-Err-clause-others : goal.returns-in-Err-clause-others
 returns-in-Err-clause-others c =
     let x = c.in-Err.ensures in
     same-others c.args.store.now c.drop_family.new.self x.kept
+
+pub returns-in-Ok-clause-step : goal.returns-in-Ok-clause-step
+returns-in-Ok-clause-step c = record { family = _; dropped = c.in-Ok.ensures.dropped; own = c.in-Ok.ensures.own }
+
+pub returns-in-Err-clause-step : goal.returns-in-Err-clause-step
+returns-in-Err-clause-step c = c.in-Err.ensures.kept

@@ -1,4 +1,4 @@
-use Rattle.std.proofs.Common.{ap, refl}
+use Rattle.std.proofs.Common.{ap, refl, ◌∙◌}
 use Rattle.std.specs.Prelude.{Ok, Err}
 use Rattle.sv_model.specs.Books.{FileRegister}
 use Rattle.sv_answers.proofs.HeldAnswers.{numbers-held, numbers-others, same-held, same-others}
@@ -6,6 +6,7 @@ use Rattle.sv_answers.proofs.HoldAnswers.{hold-replies}
 use Rattle.sv_answers.proofs.QuietRefusals.{exactly-quiet, hold-quiet}
 use Rattle.sv_answers.proofs.MakesAnswers.{makes-files, makes-same}
 use Rattle.sv_script.specs.declared.replies.Reply.TheVariants as reply
+use Rattle.sv_answers.proofs.StepLemmas.{with_files}
 use Rattle.sv_answers.proofs.holds.hold.Goals as goal
 
 pub returns-in-Ok-clause-answered : goal.returns-in-Ok-clause-answered
@@ -48,3 +49,11 @@ pub returns-in-Err-clause-others : goal.returns-in-Err-clause-others
 returns-in-Err-clause-others c =
     let x = c.in-Err.ensures in
     same-others c.args.store.now c.hold.new.self x.kept
+
+pub returns-in-Ok-clause-step : goal.returns-in-Ok-clause-step
+returns-in-Ok-clause-step c = 
+    let a = c.args.store.now in
+    c.in-Ok.ensures.rest ∙ ap (λ (z : FileRegister). with_files a z) c.in-Ok.ensures.held.1
+
+pub returns-in-Err-clause-step : goal.returns-in-Err-clause-step
+returns-in-Err-clause-step c = c.in-Err.ensures.kept

@@ -49,3 +49,9 @@ pub returns-in-Err-clause-others : goal.returns-in-Err-clause-others
 returns-in-Err-clause-others c =
     let x = c.in-Err.ensures in
     same-others c.args.store.now c.set.new.self x.kept
+
+pub returns-in-Ok-clause-step : goal.returns-in-Ok-clause-step
+returns-in-Ok-clause-step c = c.in-Ok.ensures.set
+
+pub returns-in-Err-clause-step : goal.returns-in-Err-clause-step
+returns-in-Err-clause-step c = c.in-Err.ensures.kept

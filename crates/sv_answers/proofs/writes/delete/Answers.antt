@@ -11,6 +11,7 @@ use Rattle.sv_answers.proofs.MakesAnswers.{accepted-grows, makes-refused, refuse
 use Rattle.sv_replies.proofs.GrowsLaws.{makes-zero}
 use Rattle.sv_replies.specs.Due.{dropped_cause, handle_cause}
 use Rattle.sv_answers.proofs.ReadAnswers.{key-replies}
+use Rattle.sv_answers.proofs.StepLemmas.{row-step, stops-same}
 use Rattle.sv_answers.proofs.writes.delete.Goals as goal
 
 pub returns-in-Ok-delete-clause-answered : goal.returns-in-Ok-delete-clause-answered
@@ -77,3 +78,14 @@ returns-in-Err-delete-clause-others c =
 
 pub returns-in-Err-clause-others : goal.returns-in-Err-clause-others
 returns-in-Err-clause-others c = same-others c.args.store.now c.args.store.now refl
+
+pub returns-in-Ok-delete-clause-step : goal.returns-in-Ok-delete-clause-step
+returns-in-Ok-delete-clause-step c =
+    row-step c.args.store.now c.delete.new.self c.args.name.now c.in-Ok.key c.args.key.now op.Delete op.Delete (Ok c.in-Ok-delete.number)
+    c.in-Ok.ensures.made refl c.in-Ok-delete.ensures.writes
+
+pub returns-in-Err-delete-clause-step : goal.returns-in-Err-delete-clause-step
+returns-in-Err-delete-clause-step c = c.in-Err-delete.ensures.writes.stops
+
+pub returns-in-Err-clause-step : goal.returns-in-Err-clause-step
+returns-in-Err-clause-step c = stops-same c.args.store.now c.args.name.now c.in-Err.refusal

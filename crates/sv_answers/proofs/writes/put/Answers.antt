@@ -9,6 +9,7 @@ use Rattle.sv_answers.proofs.WriteAnswers.{write-answers}
 use Rattle.sv_answers.proofs.QuietRefusals.{due-quiet, row-quiet, write-quiet}
 use Rattle.sv_answers.proofs.MakesAnswers.{accepted-grows, makes-refused, refused-grows}
 use Rattle.sv_replies.proofs.GrowsLaws.{makes-zero}
+use Rattle.sv_answers.proofs.StepLemmas.{row-step, stops-same}
 use Rattle.sv_answers.proofs.writes.put.Goals as goal
 
 pub returns-in-Ok-put-clause-answered : goal.returns-in-Ok-put-clause-answered
@@ -80,3 +81,14 @@ returns-in-Err-put-clause-others c =
 
 pub returns-in-Err-clause-others : goal.returns-in-Err-clause-others
 returns-in-Err-clause-others c = same-others c.args.store.now c.args.store.now refl
+
+pub returns-in-Ok-put-clause-step : goal.returns-in-Ok-put-clause-step
+returns-in-Ok-put-clause-step c =
+    row-step c.args.store.now c.put.new.self c.args.name.now c.in-Ok.key c.args.key.now (op.Put c.in-Ok.value) (op.Put c.args.value.now) (Ok c.in-Ok-put.number)
+    c.in-Ok.ensures.row.0 (ap op.Put c.in-Ok.ensures.row.1) c.in-Ok-put.ensures.writes
+
+pub returns-in-Err-put-clause-step : goal.returns-in-Err-put-clause-step
+returns-in-Err-put-clause-step c = c.in-Err-put.ensures.writes.stops
+
+pub returns-in-Err-clause-step : goal.returns-in-Err-clause-step
+returns-in-Err-clause-step c = stops-same c.args.store.now c.args.name.now c.in-Err.refusal
