@@ -79,13 +79,13 @@ fn full_journal(alloc: Global) -> Result<String, AllocError> {
 fn full_report(alloc: Global) -> Result<String, AllocError> {
     let mut due = "lane 1\n1 ok set sv 2\n".to_string(alloc)?;
     for file in 1..=4u64 {
-        let to = file * ROWS;
-        let from = to - ROWS;
-        for write in from + 1..=to {
-            let line = write + file;
+        let to = file.saturating_mul(ROWS);
+        let from = to.saturating_sub(ROWS);
+        for write in from.saturating_add(1)..=to {
+            let line = write.saturating_add(file);
             due.push_str(&format!(in alloc; "{line} ok put {write}\n")?)?;
         }
-        let line = to + file + 1;
+        let line = to.saturating_add(file).saturating_add(1);
         due.push_str(&format!(in alloc; "{line} ok flush file {file} from {from} to {to}\n")?)?;
     }
     due.push_str(AFTER_THE_WRITES)?;

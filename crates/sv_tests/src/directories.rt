@@ -5,22 +5,16 @@ use std::test::Fail as Failure;
 use sv_dir::{Dir, Fail, Found, How, MemDir};
 use sv_model::FileNumber;
 
-/// An empty directory in memory.
-pub fn empty_dir(alloc: Global) -> Result<MemDir, Failure> {
-    Ok(MemDir::new(alloc, Vec::new(alloc), Vec::new(alloc))?)
-}
-
-/// A directory in memory of these files.
-pub fn dir_of(alloc: Global, files: &[(&str, &str)]) -> Result<MemDir, Failure> {
+/// A directory in memory of these files that fails at these calls.
+pub fn failing_dir_of(
+    alloc: Global,
+    files: &[(&str, &str)],
+    fails: &[(u64, How)],
+) -> Result<MemDir, Failure> {
     let mut held = Vec::new(alloc);
     for (name, bytes) in files {
         held.push((name.to_string(alloc)?, bytes.as_bytes().to_vec(alloc)?))?;
     }
-    Ok(MemDir::new(alloc, held, Vec::new(alloc))?)
-}
-
-/// An empty directory in memory that fails at these calls.
-pub fn failing_dir(alloc: Global, fails: &[(u64, How)]) -> Result<MemDir, Failure> {
     let mut due = Vec::new(alloc);
     for (call, how) in fails {
         due.push(Fail {
@@ -28,7 +22,22 @@ pub fn failing_dir(alloc: Global, fails: &[(u64, How)]) -> Result<MemDir, Failur
             how: *how,
         })?;
     }
-    Ok(MemDir::new(alloc, Vec::new(alloc), due)?)
+    Ok(MemDir::new(alloc, held, due)?)
+}
+
+/// An empty directory in memory.
+pub fn empty_dir(alloc: Global) -> Result<MemDir, Failure> {
+    failing_dir_of(alloc, &[], &[])
+}
+
+/// A directory in memory of these files.
+pub fn dir_of(alloc: Global, files: &[(&str, &str)]) -> Result<MemDir, Failure> {
+    failing_dir_of(alloc, files, &[])
+}
+
+/// An empty directory in memory that fails at these calls.
+pub fn failing_dir(alloc: Global, fails: &[(u64, How)]) -> Result<MemDir, Failure> {
+    failing_dir_of(alloc, &[], fails)
 }
 
 /// The directory must have just the files of these names, each followed by a blank.
@@ -39,7 +48,10 @@ pub fn expect_names<D: Dir>(
     names: &str,
 ) -> Result<(), Failure> {
     let mut line = String::new(alloc);
-    for name in dir.list()? {
+    let mut found = dir.list()?;
+    // A folder lists its files in no order.
+    found.sort_by(|a, b| a.as_str().cmp(b.as_str()))?;
+    for name in found {
         line.push_str(name.as_str())?;
         line.push_str(" ")?;
     }

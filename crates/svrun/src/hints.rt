@@ -14,7 +14,8 @@ fn meaning(kind: BadKind) -> &'static str {
             "in a key or value, % stands before two hexadecimal digits, or alone for no bytes",
         BadKind::Number => "a number has 1 to 20 decimal digits, and is below 2 to the 64",
         BadKind::Option => "an option is memtable_rows or max_immutable",
-        BadKind::Unbuilt => "this program has no such command yet, and one lane",
+        BadKind::Unbuilt =>
+            "this program does not have pin, getp, unpin and rest yet, nor lanes from 2 on",
     }
 }
 
