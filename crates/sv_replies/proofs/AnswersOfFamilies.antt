@@ -214,5 +214,5 @@ unsnap-answers s a b k n x h after is = record {
       let same : over.0 ≡ x = some (sym over.1 ∙ is.at) in
       let q : false ≡ true = sym over.2 ∙ (ap (λ (z : Snapshot). z.live) same ∙ is.live) in
       absurd (cc)
-  );
+      );
 }

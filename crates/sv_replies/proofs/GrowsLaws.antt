@@ -142,11 +142,11 @@ draws-through a m b n p more one two = record {
   each = λ i x beyond at. elim (cases_lt i (length m.metas)) [
     | inl lt ↦ one.each i x beyond (sym (get-front m.metas more.0 i lt) ∙ (ap (λ (l : List FileMeta). slice_get l i) (sym more.1) ∙ at))
     | inr ge ↦ (
-      let y = two.each i x (omega (arith, ge)) at in
-      let u = one.long in
-      let v = one.next in
-      omega (arith, y, u, v)
-    )
+        let y = two.each i x (omega (arith, ge)) at in
+        let u = one.long in
+        let v = one.next in
+        omega (arith, y, u, v)
+        )
   ];
 }
 

@@ -161,14 +161,14 @@ module _ (script : Script) (wf : IsWellFormed script) (first : ℕ) (files : Opt
     sees = λ one i l at. (
         let is = get_one shown i l at in
         subst GetsSeeAll (sym (is.1 ∙ shown-is)) played.lane.sees
-    );
+        );
     makes = subst (λ (l : List Answered). MakesShown closed (l ∷ [])) (sym shown-is) makes;
     first = first;
     first_is = first_is;
     drawn = λ i file at. (
         let each = played.makes.grows.draws.each i file (omega arith) (ap (λ (l : List FileMeta). slice_get l i) (sym metas-same) ∙ at) in
         omega (arith, each)
-    );
+        );
     closed = close.is;
     clean = clean_is ended (obsolete_of closed.files.numbers) now.faults faults close.ends;
     files = files-left first closed files later (close.held played.held)

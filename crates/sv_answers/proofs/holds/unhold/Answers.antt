@@ -51,7 +51,7 @@ returns-in-Err-clause-others c =
     same-others c.args.store.now c.unhold.new.self x.kept
 
 pub returns-in-Ok-clause-step : goal.returns-in-Ok-clause-step
-returns-in-Ok-clause-step c = 
+returns-in-Ok-clause-step c =
     let a = c.args.store.now in
     c.in-Ok.ensures.rest ∙ ap (λ (z : FileRegister). with_files a z) c.in-Ok.ensures.ended.1
 
