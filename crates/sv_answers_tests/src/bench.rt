@@ -1,6 +1,6 @@
 // A store with the directory in memory beside it, and the texts of its answers.
 ghost use Rattle.std.specs.Prelude.{◌≤◌, IfOk};
-ghost use Rattle.sv_answers.specs.Run.{IsRun};
+ghost use Rattle.sv_script.specs.Built.{IsBuilt};
 
 use std::alloc::Global;
 use std::process::Abort;
@@ -44,7 +44,7 @@ fn bytes_of(alloc: Global, word: &str) -> Result<Items<u8>, Fail> {
 }
 
 fn command_of(alloc: Global, deed: Deed) -> Result<Command, Fail>
-    ensures { IfOk result IsRun }
+    ensures { IfOk result IsBuilt }
 {
     Ok(match deed {
         Deed::Put(name, key, value) => Command::Put {
