@@ -138,8 +138,7 @@ const READ: [&[u8]; 16] = [
 fn reads_each_command_of_one_lane(rt: HostRuntime) {
     let alloc = rt.alloc();
     for line in READ {
-        let script = parse(alloc, line);
-        assert!(rt; matches!(script, Ok(script) if script.lines.as_slice().len() == 1));
+        expect_script(&rt, alloc, line, 1, 1);
     }
 }
 
