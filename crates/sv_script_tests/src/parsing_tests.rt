@@ -168,7 +168,7 @@ fn tests_one_line_in_order(rt: HostRuntime) {
     expect_bad(
         &rt,
         alloc,
-        b"1 get cold a\n\n1 hold\n0\n".as_slice(),
+        b"1 get cold a\n\n1 rest\n0\n".as_slice(),
         3,
         BadKind::Unbuilt,
     );
