@@ -158,6 +158,11 @@ module _ (script : Script) (wf : IsWellFormed script) (first : ℕ) (files : Opt
     reports = reports;
     counts = λ i r at. (let is = get_one report i r at in ap (λ (z : LaneReport). z.counts) is.1);
     fits = subst (λ (l : List Answered). LanesFit (is_some files) closed (l ∷ [])) (sym shown-is) fits;
+    own = λ i w at. (
+        let mine = played.lane.writes i w (ap (λ (l : List Write). slice_get l i) (sym journal-same) ∙ at) in
+        let one = wf.lanes in
+        omega (arith, mine, one)
+        );
     sees = λ one i l at. (
         let is = get_one shown i l at in
         subst GetsSeeAll (sym (is.1 ∙ shown-is)) played.lane.sees
@@ -189,6 +194,7 @@ ran_from files later before start now script done le h = record {
   reports = h.reports;
   counts = h.counts;
   fits = h.fits;
+  own = h.own;
   sees = h.sees;
   makes = h.makes;
   first = h.first;

@@ -3,6 +3,7 @@ use Rattle.std.specs.Prelude.{◌≡◌, ◌+◌, ◌<◌, ◌≤◌, ◌⊎◌,
 use Rattle.std.specs.Io.KnownBytes.{Appends}
 use Rattle.sv_model.specs.declared.reports.End.{End}
 use Rattle.sv_model.specs.declared.reports.End.TheVariants as end
+use Rattle.sv_model.specs.declared.writes.Write.{Write}
 use Rattle.sv_model.specs.Faults.{Rose, RoseBy}
 use Rattle.sv_model.specs.Lists.{Every, total}
 use Rattle.sv_model.specs.Summaries.{summary_of, obsolete_of}
@@ -46,8 +47,8 @@ abbrev pub faults_at_close : End → List ℕ → ℕ
 faults_at_close end.DirFault left = length left
 faults_at_close ended left = 0
 
--- Each lane answered its lines of the script, in order. The replies fit the books; where there is one lane each get
--- looked at just the writes before it. What was made is what the replies show, and the first file's number is one above
+-- Each lane answered its lines of the script, in order. The replies fit the books, whose journal has no write but the
+-- lanes'; where there is one lane each get looked at just the writes before it. What was made is what the replies show, and the first file's number is one above
 -- the greatest that a file was named by, or 1. Then the store was closed: nothing is kept but what the families that
 -- stand show, and the numbers that are left, of which a clean close has none. The directory failed as often as the lanes
 -- were told and close met, or more often.
@@ -55,6 +56,7 @@ pub record LanesRan (d : Directory) (script : Script) (done : Done) : Type 0 whe
   pub reports : AreReports script done.lanes
   pub counts : Every HasNoCounts done.lanes
   pub fits : LanesFit (is_some d.files) done.books.books (answered_of script done.lanes)
+  pub own : Every (λ (w : Write). w.lane < script.lanes) done.books.books.journal
   pub sees : script.lanes ≡ 1 → Every GetsSeeAll (answered_of script done.lanes)
   pub makes : MakesShown done.books.books (answered_of script done.lanes)
   pub first : ℕ
