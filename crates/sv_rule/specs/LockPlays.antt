@@ -1,6 +1,6 @@
 -- What the steps on locks make of a view, what they need, and what they tell: of the seat before, the word found and
 -- the seat after.
-use Rattle.std.specs.Prelude.{◌≡◌, ◌≢◌, ◌≤◌, ◌<◌, ◌+◌, ◌/◌, ◌%◌, ◌++◌, ◌⊎◌, ◌↔◌, ◌==◌, ◌||◌, ◌&&◌, ℕ, Bool, true, false, max, nat_lt, List, [], ◌∷◌, Option, Some, None, length, filter, not}
+use Rattle.std.specs.Prelude.{◌≡◌, ◌≢◌, ◌≤◌, ◌<◌, ◌+◌, ◌/◌, ◌%◌, ◌++◌, ◌⊎◌, ◌↔◌, ◌==◌, ◌||◌, ◌&&◌, ℕ, Bool, true, false, max, nat_lt, List, [], ◌∷◌, Option, Some, None, length, filter, not, is_some}
 use Rattle.std.specs.List.{list_any}
 use Rattle.std.specs.FinMap as map
 use Rattle.atomic_table.specs.Table.{Me, rest}
@@ -270,9 +270,13 @@ pub record MayGiveDir (v : LaneView) (now : Disk) (u : Task) (reads : List FileR
   pub later : found.faults ≤ now.faults
   pub rose : (found.faults + rise ≤ now.faults) ⊎ (18446744073709551615 ≤ now.faults)
 
+-- The directory tells its files where it told them at the opening.
+abbrev pub AreTold : LaneView → Disk → Type 0
+AreTold v d = is_some d.files ≡ is_some v.known.start.disk.files
+
 module _ {S D C B : Type 0} (disk : D → Disk) where
   pub record TookDir (m : Me (Stored S D C B) LaneView) (r : ℕ) (n : Me (Stored S D C B) LaneView) : Type 0 where
-    pub free : r ≡ 0 → (y : D) × (n ≡ (took_dir (disk y) m.0, (1, is.Dir y) ∷ m.1))
+    pub free : r ≡ 0 → (y : D) × (n ≡ (took_dir (disk y) m.0, (1, is.Dir y) ∷ m.1)) × AreTold m.0 (disk y)
     pub busy : r ≢ 0 → n ≡ m
 
 module _ {A : Type 0} where

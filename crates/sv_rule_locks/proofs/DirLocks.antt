@@ -18,7 +18,7 @@ use Rattle.sv_rule.specs.Fits.{ReadFits}
 use Rattle.sv_rule.specs.Held.{FilesHeld, Says, Told}
 use Rattle.sv_rule.specs.Home.{IsDir, Lock}
 use Rattle.sv_rule.specs.InHand.{Accounts, WorkHeld}
-use Rattle.sv_rule.specs.LockPlays.{DirChange, GaveDir, MarksTask, MayGiveDir, TookDir, gave_dir, took_dir}
+use Rattle.sv_rule.specs.LockPlays.{AreTold, DirChange, GaveDir, MarksTask, MayGiveDir, TookDir, gave_dir, took_dir}
 use Rattle.sv_rule.specs.Rule.{Kept}
 use Rattle.sv_rule.specs.Sums.{Each}
 use Rattle.sv_model.specs.Turns.{OwnTurns}
@@ -50,6 +50,13 @@ no_disk d e = cc
 
 dir_one : (v : LaneView) (d : Disk) → v.locks.dir ≡ Some d → has_dir v ≡ 1
 dir_one v d e = ap (λ (o : Option Disk). some_count o) e
+
+told_alike : (R : Files → Files → Type 0) (first files : Option Files) → Told R first files
+    → is_some files ≡ is_some first
+told_alike R None None h = refl
+told_alike R None (Some f) h = absurd h
+told_alike R (Some a) None h = absurd h
+told_alike R (Some a) (Some f) h = refl
 
 -- what the directory tells it told at the opening
 files_told : (first files : Option Files) (R : Files → Files → Type 0) → Told R first files → is_some first ≡ true
@@ -162,7 +169,10 @@ module _ {S D C B : Type 0} (books : S → Books) (disk : D → Disk) (cell : C 
       let homes = set s.homes 1 none in
       let accounts = kept.in_hand.accounts id v me alive in
       let same_turn = turns-same kept.b kept.work kept.start kept.d (number s) s.views id v me alive kept.in_hand
-      kept.numbers.lawful in (
+      kept.numbers.lawful in
+      let told : AreTold v (disk y.0) = ap (λ (z : Disk). is_some z.files) y.2
+      ∙ told_alike (λ p q. FilesHeld kept.b p q s.views) kept.start.disk.files kept.d.files kept.held.files
+      ∙ sym (ap (λ (z : Start). is_some z.disk.files) (kept.in_hand.starts id v me alive)) in (
         w,
         takes 1 (is.Dir y.0),
         t.1 ∙ ap (λ z. some (some z)) y.1,
@@ -182,7 +192,7 @@ module _ {S D C B : Type 0} (books : S → Books) (disk : D → Disk) (cell : C 
             kept.held.files)
             (⊎_elim (λ h. inl (omega (arith, h, view_same faults s.views id v w me refl))) (λ h. inr h)
             kept.in_hand.faults),
-        record { free = λ _. (y.0, refl); busy = λ ne. absurd (ne e) },
+        record { free = λ _. (y.0, refl, told); busy = λ ne. absurd (ne e) },
       ))
       (λ ne. (
         v,

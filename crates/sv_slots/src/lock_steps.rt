@@ -2,7 +2,7 @@
 ghost use Rattle.std.specs.Prelude.{[], None, ◌∷◌, ◌≡◌, ◌<◌};
 ghost use Rattle.atomic_table.specs.Table.{rest};
 ghost use Rattle.sv_rule.specs.Blanks.{desk_of};
-ghost use Rattle.sv_rule.specs.LockPlays.{FindsAsBody, FindsAsBooks, IsTold, MayGiveCell, MayGiveDb, MayGiveDir, MayWriteCell, TookCell, gave_cell, gave_db, gave_dir, took_cell, took_db, took_dir, wrote_cell};
+ghost use Rattle.sv_rule.specs.LockPlays.{AreTold, FindsAsBody, FindsAsBooks, IsTold, MayGiveCell, MayGiveDb, MayGiveDir, MayWriteCell, TookCell, gave_cell, gave_db, gave_dir, took_cell, took_db, took_dir, wrote_cell};
 ghost use Rattle.sv_rule.specs.Table.{cell_word};
 ghost use Rattle.sv_slots.specs.Seats.{IsLane, StartsAt};
 
@@ -84,6 +84,7 @@ impl<P: Parts> Core<P> {
         requires lane { IsLane seat.old.me.0 _lane }
         ensures same { (seat.new.table_id ≡ seat.old.table_id) × (seat.new.id ≡ seat.old.id) }
         ensures took { seat.new.me ≡ (took_dir (P.disk result) seat.old.me.0, (1, Stored.Nothing) ∷ seat.old.me.1) }
+        ensures told { AreTold seat.old.me.0 (P.disk result) }
     {
         let shared = &self.table.shared;
         let mut tries = 0;

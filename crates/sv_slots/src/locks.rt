@@ -1,7 +1,7 @@
 // The three locks: of the state, of the directory, and of each cell.
 ghost use Rattle.std.specs.Prelude.{None, Some, ◌≡◌, ◌<◌};
 ghost use Rattle.sv_rule.specs.Blanks.{desk_of};
-ghost use Rattle.sv_rule.specs.LockPlays.{FindsAsBody, FindsAsBooks, IsTold, MayGiveCell, MayGiveDb, MayGiveDir, MayWriteCell, gave_cell, gave_db, gave_dir, took_cell, took_db, took_dir, wrote_cell};
+ghost use Rattle.sv_rule.specs.LockPlays.{AreTold, FindsAsBody, FindsAsBooks, IsTold, MayGiveCell, MayGiveDb, MayGiveDir, MayWriteCell, gave_cell, gave_db, gave_dir, took_cell, took_db, took_dir, wrote_cell};
 ghost use Rattle.sv_slots.specs.Known.{CameWith, IsSameSeat, table_of, view_of};
 
 use crate::table::{Core, LaneSeat, cell_word_of};
@@ -41,6 +41,7 @@ impl<P: Parts> Core<P> {
         requires free { (view_of seat.old).locks.dir ≡ None }
         ensures same { IsSameSeat seat.old seat.new }
         ensures took { view_of seat.new ≡ took_dir (P.disk result) (view_of seat.old) }
+        ensures told { AreTold (view_of seat.old) (P.disk result) }
     {
         let lane = seat.lane;
         let dir = self.take_dir_at(rt, &mut seat.seat, lane);
