@@ -1,0 +1,4 @@
+pub mod Parts
+pub mod Grown
+pub mod Desks
+pub mod Lending
