@@ -23,7 +23,8 @@ use Rattle.sv_objects.specs.Shown.{shown}
 use Rattle.sv_rule.specs.Fits.{BodyFits, IsFrozenAt, cell_of}
 use Rattle.sv_rule.specs.ReferencePlays.{CanAdd}
 use Rattle.sv_rule.specs.SlotPlays.{IsShown}
-use Rattle.sv_rule.specs.Views.{Bodied, LaneView, idle}
+use Rattle.sv_rule.specs.Views.{Bodied, LaneView, Locks, idle}
+use Rattle.sv_slots.specs.Seats.{HasDesk}
 use Rattle.sv_state.specs.Currents.{HasCurrentAt}
 use Rattle.sv_state.specs.Refs.{AreFrozenAt, IsRefOf}
 
@@ -109,19 +110,22 @@ module _ (b : Books) (lawful : Lawful b) (f : ℕ) (at : HasCurrentAt b f) (p : 
   current-shown =
       let t = current-top b lawful f at.serial at.top at.at at.is in
       let same : r.it ≡ t.2.it = some (sym r.at ∙ t.2.at) in
-      let fits = current-fits in
-      let cell = lawful.cells r.it.descriptor.active fits.fits.active fits.fits.active_at active-live in
+      let cell = r.body_is.cell in
+      let h = (lawful.memtables r.it.descriptor.active).1 (inl (at.serial, r.it, r.at, record { live = current-live; is = refl })) in
+      let live : cell.it.live ≡ true = ap (λ (m : Memtable). m.live) (some (sym cell.at ∙ h.at)) ∙ h.live in
       record {
-        family = ap (λ d. d.family) r.body_is.descriptor_is ∙ ap (λ (s : SuperVersion). s.descriptor.family) same ∙ t.2.family_is;
-        cell = omega (arith, cell.0, fits.cell_is);
+        family = ap (λ d. d.family) r.body_is.descriptor_is
+            ∙ ap (λ (z : SuperVersion). z.descriptor.family) same ∙ t.2.family_is;
+        cell = omega (arith, (lawful.cells r.it.descriptor.active cell.it cell.at live).0, cell.is);
         pack = current-big;
-        small = omega (arith, r.pack_is, (lawful.places at.serial r.it r.at current-live).0, (entry_le b.supers at.serial r.it r.at).1, lawful.limits.supers);
+        small = omega (
+          arith,
+          r.pack_is,
+          (lawful.places at.serial r.it r.at current-live).0,
+          (entry_le b.supers at.serial r.it r.at).1,
+          lawful.limits.supers,
+        );
       }
-    where
-      active-live : current-fits.fits.active.live ≡ true
-      active-live =
-          let h = (lawful.memtables r.it.descriptor.active).1 (inl (at.serial, r.it, r.at, record { live = current-live; is = refl })) in
-          ap (λ (m : Memtable). m.live) (some (sym current-fits.fits.active_at ∙ h.at)) ∙ h.live
 
   -- one more reference of it may be made by the lane that has the DB lock
   pub may-add : f < 16 → (v : LaneView) → IsAtDesk b [] v → CanAdd x v
@@ -155,3 +159,30 @@ still-current a b f h c = record {
   serial = c.serial;
   is = c.is;
 }
+
+-- ---- the current as a lane with the DB lock is handed it
+
+module _ (a m : Books) (same : m ≡ a) (v : LaneView) (desk : IsAtDesk a [] v) (f : ℕ) (near : f < 16)
+    (at_a : HasCurrentAt a f) (p : ℕ) (body : Body) (ref : (at : HasCurrentAt m f) → IsRefOf m at.serial p body) where
+  desk_m : IsAtDesk m [] v
+  desk_m = subst (λ (z : Books). IsAtDesk z [] v) (sym same) desk
+
+  at_m : HasCurrentAt m f
+  at_m = subst (λ (z : Books). HasCurrentAt z f) (sym same) at_a
+
+  pub lend-held : (256 ≤ p) × CanAdd (record { pack = p; body = body_of body }) v
+  lend-held = (
+    current-big m desk_m.own.lawful f at_m p body (ref at_m),
+    may-add m desk_m.own.lawful f at_m p body (ref at_m) near v desk_m,
+  )
+
+  pub lend-lock : (w : LaneView) → w.locks ≡ v.locks
+      → HasDesk w (λ d. (d.work ≡ idle) × (p ≡ current_of d.books f))
+  lend-lock w locks = (
+    record { books = m; work = idle; due = [] },
+    ap (λ (k : Locks). k.db) locks ∙ desk_m.db,
+    (refl, current-pack m desk_m.own.lawful f at_m p body (ref at_m)),
+  )
+
+  pub lend-shown : IsShown f (record { pack = p; body = body_of body })
+  lend-shown = current-shown m desk_m.own.lawful f at_m p body (ref at_m)

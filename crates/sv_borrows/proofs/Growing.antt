@@ -48,7 +48,7 @@ grows-on u v w h k = record {
   seen = λ f. omega (arith, h.seen f, k.seen f);
 }
 
-abbrev Base : Type 0
+abbrev pub Base : Type 0
 Base = ℕ × Start × Task × List Write × ℕ × List (List Load)
 
 -- what fits the later fits the earlier

@@ -4,11 +4,12 @@ use mathlib.Core.Logic.{dite}
 use native.Mathlib.Decide.{ℕ_discrete}
 use Rattle.sv_borrows.specs.Desks.{AreAlike}
 use Rattle.sv_borrows.specs.Grown.{Cleans, Givings, Grows}
-use Rattle.sv_borrows.specs.Lending.{Borrows, BorrowsNone, GivesBack, IsFree, IsLent, IsNotLent, ended_view, fresh_view}
+use Rattle.sv_borrows.specs.Lending.{Borrows, BorrowsNone, GivesBack, IsFree, IsLent, IsNotLent, MayLend, ended_view, fresh_view}
 use Rattle.sv_borrows.proofs.Lists.{without-first}
-use Rattle.sv_borrows.proofs.Growing.{givings-none, givings-one, grows-on, in-last}
+use Rattle.sv_borrows.proofs.Growing.{Base, givings-none, givings-one, grows-on, in-last}
 use Rattle.sv_model.specs.Books.{Books}
-use Rattle.sv_model.specs.Lists.{In, at}
+use Rattle.sv_model.specs.Lists.{In, at, times}
+use Rattle.sv_model.specs.Tasks.{Task}
 use Rattle.sv_model.proofs.AfterLaws.{continues-itself}
 use Rattle.sv_rule.specs.Blanks.{no_locks}
 use Rattle.sv_rule.specs.ReferencePlays.{dropped, lowers}
@@ -18,6 +19,9 @@ use Rattle.sv_rule.specs.Table.{slot_of}
 use Rattle.sv_rule.specs.Views.{Bodied, Known, LaneView, Locks, Load, SlotView, away, borrow}
 use Rattle.sv_rule.proofs.Basics.{append_none}
 use Rattle.sv_rule.proofs.Sums.{at-put_else, at-put_same}
+use Rattle.sv_slots.specs.References.{IsDropped}
+use Rattle.sv_slots.specs.declared.refs.Sub.{Sub}
+use Rattle.sv_slots.specs.declared.refs.Sub.TheVariants.{Last, More}
 use Rattle.sv_slots.specs.Borrows.{given_back, hit, missed, stale, swept_back}
 
 none_locks : (v : LaneView) → v.locks ≡ no_locks → record v.locks { db = None } ≡ v.locks
@@ -51,7 +55,7 @@ more-grows v a b more s alike = record {
   seen = λ f. omega (arith, alike f);
 }
 
-module _ (f : ℕ) (v : LaneView) (free : IsFree v) where
+module _ (f : ℕ) (v : LaneView) where
   abbrev floor : ℕ
   floor = at 0 v.known.seen f
 
@@ -162,6 +166,19 @@ module _ (f : ℕ) (v : LaneView) where
       lowered_none : (p : ℕ) (v : LaneView) → v.locks ≡ no_locks
           → record v.locks { db = lowers p v.locks.db } ≡ v.locks
       lowered_none p v h = ap (λ (k : Locks). record k { db = lowers p k.db }) h ∙ sym h
+
+-- ---- a miss, and the slot may be lent
+
+pub miss-lends : (f : ℕ) (v u : LaneView) → IsMissed f v u → MayLend f v → MayLend f u × (at 0 u.slots.cached f ≡ 0)
+miss-lends f v u m lend = (
+  (lend.0, subst (λ (t : Task). 1 ≤ times f t.handles) (sym (ap (λ (z : Base). z.2) m.known.base)) lend.1, m.slot),
+  m.cached,
+)
+
+pub stale-missed : (f : ℕ) (v : LaneView) → v.locks ≡ no_locks → (x : Bodied) (now : ℕ) (t : LaneView)
+    → t ≡ stale f x now v → (left : Sub) (u : LaneView) → IsDropped x.pack left t u → IsMissed f v u
+stale-missed f v locks x now t e More u h = is-stale f v x now false t u e locks h
+stale-missed f v locks x now t e (Last owed) u h = is-stale f v x now true t u e locks h.1
 
 -- ---- under the DB lock
 

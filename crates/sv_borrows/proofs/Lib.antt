@@ -6,3 +6,4 @@ pub mod Cleaning
 pub mod Growing
 pub mod CurrentRefs
 pub mod Lending
+pub mod Locked
