@@ -1,2 +1,4 @@
 pub mod Looking
 pub mod ReadViews
+pub mod Texts
+pub mod Finding

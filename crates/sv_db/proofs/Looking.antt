@@ -54,7 +54,7 @@ module _ (b : Books) (lawful : Lawful b) (x : Bodied) (fits : BodyFits b x) wher
   abbrev base : ℕ
   base = x.body.descriptor.base
 
-  abbrev d : Describes b.journal b.memtables b.lists b.versions b.files.numbers b.metas fits.super.descriptor
+  abbrev pub d : Describes b.journal b.memtables b.lists b.versions b.files.numbers b.metas fits.super.descriptor
   d = fits.fits
 
   family_is : f ≡ fits.super.descriptor.family
@@ -73,7 +73,7 @@ module _ (b : Books) (lawful : Lawful b) (x : Bodied) (fits : BodyFits b x) wher
     active_is : mem ≡ fits.super.descriptor.active
     active_is = mem_is ∙ ap (λ z. z.active) fits.descriptor
 
-    all : List Row
+    abbrev all : List Row
     all = rows_of (borne_by fits.super.descriptor.active J)
 
     whole : Continues rows all
