@@ -2,3 +2,4 @@ pub mod Looking
 pub mod ReadViews
 pub mod Texts
 pub mod Finding
+pub mod Getting
