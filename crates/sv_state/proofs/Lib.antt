@@ -11,6 +11,7 @@ mod Finishes
 mod Fronts
 mod HeldAgain
 mod LiveNumbers
+mod NoMemory
 mod OpenBooks
 mod OpenLists
 mod OpenRefs

@@ -1,5 +1,6 @@
 // What a write and a flush meet, told before anything is done.
-ghost use Rattle.std.specs.Prelude.{◌≡◌, ◌<◌, ◌≤◌, ◌-◌, ◌∷◌, [], ℕ, Some, None, cond, nat_lt, IfOk, OnOk, slice_get, length};
+ghost use Rattle.std.specs.Prelude.{◌≡◌, ◌<◌, ◌≤◌, ◌-◌, ◌∷◌, [], ℕ, Some, None, Err, cond, nat_lt, IfOk, OnOk, slice_get, length};
+ghost use Rattle.sv_model.specs.declared.refusals.Refusal.TheVariants.{OutOfMemory};
 ghost use Rattle.sv_model.specs.Refusals.{RefusesExactly};
 ghost use Rattle.sv_state.specs.Currents.{OwnHaveCurrents};
 ghost use Rattle.sv_state.specs.Planning.{IsFlushPlan, IsPlanOf, Planned, flush_due, flush_refusal, is_switch_due, switch_due, write_due, write_refusal};
@@ -65,7 +66,8 @@ impl State {
     pub fn flush_plan(&self, lane: u8, name: &Name) -> Result<FlushPlan, Refusal>
         requires lane { lane < 32 }
         requires current { OwnHaveCurrents self.now.books lane name.now }
-        ensures { Planned self.now.books lane name.now (flush_refusal self.now.books) (IsFlushPlan self.now.books) result }
+        ensures planned { Planned self.now.books lane name.now (flush_refusal self.now.books) (IsFlushPlan self.now.books) result }
+        ensures memory { result ≡ Err OutOfMemory → ⊥ }
     {
         let family = match self.families.find_undropped(lane, name) {
             Ok(family) => family,

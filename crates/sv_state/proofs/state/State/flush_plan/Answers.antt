@@ -5,6 +5,8 @@ use Rattle.sv_objects.specs.declared.bodies.Body.{Body}
 use Rattle.sv_state.specs.Planning.{IsCellIf, IsFlushPlan, MeantAt, Planned, active_rows, flush_due, flush_refusal}
 use Rattle.sv_state.specs.Seen.{StateSeen}
 use Rattle.sv_state.specs.Views.{books_of}
+use Rattle.sv_family.specs.Refused.{change_refusal}
+use Rattle.sv_state.proofs.NoMemory.{change-wants-none, flush-wants-none, never-told}
 use Rattle.sv_state.proofs.Plannings.{base-below, cell-if, due-exactly, meant, members-are, rows-are}
 use Rattle.sv_state.proofs.Finding.{meant-body, meant-kept, meant-so, meant-within}
 use Rattle.sv_state.proofs.state.State.flush_plan.Goals as goal
@@ -55,8 +57,8 @@ due_flush-requires c =
     let x = meant-so a c.args.self.now.books (ap (λ (z : StateSeen). z.books) c.self.view_is) lane name f c.in-Ok.ensures.found c.requires.current in
     meant-within a i.held.items c.self.invariant lane name f x
 
-pub returns-in-Err-due_flush : goal.returns-in-Err-due_flush
-returns-in-Err-due_flush c =
+pub returns-in-Err-due_flush-clause-planned : goal.returns-in-Err-due_flush-clause-planned
+returns-in-Err-due_flush-clause-planned c =
     let i = c.self.inside in
     let a : Books = books_of i in
     let k = c.self.invariant.sound in
@@ -72,8 +74,8 @@ returns-in-Err-due_flush c =
     let due_is : flush_due a.files f a.supers a.memtables (c.written.result - old.descriptor.base) (length c.as_slice-members.result.now) ≡ flush_refusal a m = λ j. flush_due a.files f a.supers a.memtables (rows j) (members j) in
     subst (λ (z : StateSeen). Planned z.books lane name (flush_refusal z.books) (IsFlushPlan z.books) (Err c.in-Err-due_flush.refusal)) c.self.view_is (inr (m, due-exactly (flush_refusal a m) c.in-Err-due_flush.refusal (sym due_is ∙ c.in-Err-due_flush.ensures.refused), tt))
 
-pub returns : goal.returns
-returns c =
+pub returns-clause-planned : goal.returns-clause-planned
+returns-clause-planned c =
     let i = c.self.inside in
     let a : Books = books_of i in
     let k = c.self.invariant.sound in
@@ -90,3 +92,18 @@ returns c =
     let s = c.in-Ok-due_flush.switches in
     let is : s ≡ nat_lt 0 (active_rows a m) = c.in-Ok-due_flush.ensures.switches ∙ ap (nat_lt 0) rows in
     subst (λ (z : StateSeen). Planned z.books lane name (flush_refusal z.books) (IsFlushPlan z.books) (Ok (record { family = f; cell = c.cell_if-cell.result }))) c.self.view_is (inr (m, sym due_is ∙ c.in-Ok-due_flush.ensures.refused, record { family_is = refl; cell = subst (IsCellIf a.memtables m.it.descriptor.active (nat_lt 0 (active_rows a m))) (sym c.cell_if-cell.ensures) (cell-if a k lane name f x.it x.at x.own x.stands x.current old w s is) }))
+
+pub returns-in-Err-clause-memory : goal.returns-in-Err-clause-memory
+returns-in-Err-clause-memory c =
+    let families = c.self.inside.families in
+    let e = c.in-Err.refusal in
+    never-told (Err e) (change_refusal families c.args.lane c.args.name.now) e (change-wants-none families c.args.lane c.args.name.now) c.in-Err.ensures.refused refl
+
+pub returns-in-Err-due_flush-clause-memory : goal.returns-in-Err-due_flush-clause-memory
+returns-in-Err-due_flush-clause-memory c =
+    let a : Books = books_of c.self.inside in
+    let f = c.in-Ok.family in
+    let e = c.in-Err-due_flush.refusal in
+    let rows = c.written.result - c.body_at-body.result.now.descriptor.base in
+    let members = length c.as_slice-members.result.now in
+    never-told (Err e) (flush_due a.files f a.supers a.memtables rows members) e (flush-wants-none a.files f a.supers a.memtables rows members) c.in-Err-due_flush.ensures.refused refl

@@ -25,7 +25,7 @@ returns-in-Err-clause-refused g c =
     let F = g.D.Dir.files c.args.dir.now in
     let e = c.in-Err.refusal in
     subst (λ (z : StoreSeen). FlushRefused z z F F c.args.name.now e) c.self.view_is
-    (inl (record { due = plan-refused B c.args.name.now (flush_refusal B) (IsFlushPlan B) c.flush_plan.result c.flush_plan.ensures e c.in-Err.is; same = refl; files = refl }))
+    (inl (record { due = plan-refused B c.args.name.now (flush_refusal B) (IsFlushPlan B) c.flush_plan.result c.flush_plan.ensures.planned e c.in-Err.is; same = refl; files = refl }))
 
 pub returns-in-Err-clause-faults : goal.returns-in-Err-clause-faults
 returns-in-Err-clause-faults g c =
@@ -33,7 +33,7 @@ returns-in-Err-clause-faults g c =
     let n = g.D.Dir.faults c.args.dir.now in
     let e = c.in-Err.refusal in
     counts-none e n
-    (flush-told B c.args.name.now e (plan-refused B c.args.name.now (flush_refusal B) (IsFlushPlan B) c.flush_plan.result c.flush_plan.ensures e c.in-Err.is))
+    (flush-told B c.args.name.now e (plan-refused B c.args.name.now (flush_refusal B) (IsFlushPlan B) c.flush_plan.result c.flush_plan.ensures.planned e c.in-Err.is))
 
 pub returns-in-Err-clause-held : goal.returns-in-Err-clause-held
 returns-in-Err-clause-held g c =
@@ -49,7 +49,7 @@ returns-in-Err-clause-others g c =
 pub flush_family-requires : goal.flush_family-requires
 flush_family-requires g c =
     let B = c.self.inside.state.books in
-    let p = plan-made B c.args.name.now (flush_refusal B) (IsFlushPlan B) c.flush_plan.result c.flush_plan.ensures c.in-Ok.plan c.in-Ok.is in
+    let p = plan-made B c.args.name.now (flush_refusal B) (IsFlushPlan B) c.flush_plan.result c.flush_plan.ensures.planned c.in-Ok.plan c.in-Ok.is in
     record {
       can = planned-empties B c.self.inside.cells c.self.invariant c.args.name.now p.0 p.1 c.in-Ok.plan p.2;
       still = c.self.invariant.still;
@@ -62,7 +62,7 @@ returns-clause-flushed g c =
     let F = g.D.Dir.files c.args.dir.now in
     let G = g.D.Dir.files c.flush_family.new.dir in
     let r = c.flush_family.result in
-    let p = plan-made s.books c.args.name.now (flush_refusal s.books) (IsFlushPlan s.books) c.flush_plan.result c.flush_plan.ensures c.in-Ok.plan c.in-Ok.is in
+    let p = plan-made s.books c.args.name.now (flush_refusal s.books) (IsFlushPlan s.books) c.flush_plan.result c.flush_plan.ensures.planned c.in-Ok.plan c.in-Ok.is in
     subst (λ (z : StoreSeen). IfOk r (Flushes z.books t.books F G c.args.name.now)) c.self.view_is
     (flushed-as s t c.self.inside.cells c.flush_family.new.cells F G c.args.name.now p.0 p.1 r
     (subst (λ n. IfOk r (FlushesFamily s.books t.books F G n)) p.2.family_is c.flush_family.ensures.flushed))
@@ -76,7 +76,7 @@ returns-clause-refused g c =
     let F = g.D.Dir.files c.args.dir.now in
     let G = g.D.Dir.files c.flush_family.new.dir in
     let r = c.flush_family.result in
-    let p = plan-made s.books c.args.name.now (flush_refusal s.books) (IsFlushPlan s.books) c.flush_plan.result c.flush_plan.ensures c.in-Ok.plan c.in-Ok.is in
+    let p = plan-made s.books c.args.name.now (flush_refusal s.books) (IsFlushPlan s.books) c.flush_plan.result c.flush_plan.ensures.planned c.in-Ok.plan c.in-Ok.is in
     subst (λ (z : StoreSeen). IfErr r (FlushRefused z (seen_as t.books D) F G c.args.name.now)) c.self.view_is
     (stopped-as s t C D F G c.args.name.now p.0 p.1 r
     (subst (λ n. IfErr r (λ e. StopsBefore s t C D F G e ⊎ StopsAfter s.books t.books F G n e)) p.2.family_is c.flush_family.ensures.stopped))
