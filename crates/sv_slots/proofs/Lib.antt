@@ -16,3 +16,4 @@ pub mod Unchanged
 pub mod OpenedSeats
 pub mod ToldCounts
 pub mod Lent
+pub mod InstallSweeps
