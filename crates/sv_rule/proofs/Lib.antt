@@ -30,3 +30,5 @@ pub mod ComposedTurns
 pub mod SmallWorld
 pub mod SmallParts
 pub mod LockCounts
+pub mod FoundNumbers
+pub mod FittingBodies

@@ -6,7 +6,7 @@ use Rattle.sv_model.specs.Lists.{In, same, total, at}
 use Rattle.sv_model.specs.declared.sv_refs.SvRef.{SvRef}
 use Rattle.sv_rule.proofs.Sums.{at-put_same}
 use Rattle.sv_rule.specs.ReferencePlays.{learnt}
-use Rattle.sv_rule.specs.SlotPlays.{IsCurrentAt, IsShown, Looked, Used, checked, counted, looked, looked_by, rested, slotted}
+use Rattle.sv_rule.specs.SlotPlays.{IsCurrentAt, IsShown, Looked, Used, checked, counted, looked_by, rested, slotted}
 use Rattle.sv_rule.specs.Sums.{without}
 use Rattle.sv_rule.specs.Table.{slot_home, slot_of, spot}
 use Rattle.sv_rule.specs.Views.{Bodied, Body, Desk, LaneView, away, borrow, held, idle}

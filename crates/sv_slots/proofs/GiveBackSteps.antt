@@ -1,7 +1,7 @@
 -- What a lane knows along the giving back of a borrow.
 use Rattle.std.proofs.Common.{ap, arith, refl, subst, sym, ℕ, ◌<◌, ◌∙◌, ◌∷◌, ◌≡◌, ◌≢◌}
 use Rattle.atomic_table.specs.Table.{Me, rest}
-use Rattle.sv_model.specs.Lists.{In, same}
+use Rattle.sv_model.specs.Lists.{In}
 use Rattle.sv_model.specs.declared.sv_refs.SvRef.{SvRef}
 use Rattle.sv_rule.proofs.Sums.{at-put_same}
 use Rattle.sv_rule.specs.SlotPlays.{PutBack, counted, reached, rested, slotted}

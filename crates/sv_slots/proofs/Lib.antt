@@ -15,3 +15,5 @@ pub mod Ends
 pub mod Unchanged
 pub mod OpenedSeats
 pub mod ToldCounts
+pub mod Lent
+pub mod InstallSweeps

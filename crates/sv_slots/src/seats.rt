@@ -9,8 +9,8 @@ use arrayvec::ArrayVec;
 use sv_rule::{Gather, Parts, SplitLane};
 
 impl<P: Parts> Core<P> {
-    /// The seat of the next lane, made by that of lane 0.
-    pub fn split(&self, seat: &mut LaneSeat<P>, lane: u8) -> LaneSeat<P>
+    // The seat of the next lane, made by that of lane 0.
+    pub(crate) fn split(&self, seat: &mut LaneSeat<P>, lane: u8) -> LaneSeat<P>
         requires table { CameWith (table_of self.now) seat.old }
         requires lane { ((view_of seat.old).seat.made ≡ lane) × (lane < 32) × MaySplit (view_of seat.old) }
         ensures same { IsSameSeat seat.old seat.new }

@@ -3,7 +3,7 @@ use Rattle.std.proofs.Common.{List, Some, [], arith, length, refl, suc, zero, �
 use Rattle.std.specs.Prelude.{slice_get}
 use Rattle.sv_model.specs.Lists.{In}
 use Rattle.sv_model.proofs.Entries.{every_none, get_none}
-use Rattle.sv_model.specs.Described.{Describes, IsFileOf}
+use Rattle.sv_model.specs.Described.{IsFileOf}
 use Rattle.sv_model.specs.Registers.{entry}
 use Rattle.sv_model.specs.Supers.{current_of}
 use Rattle.sv_rule.specs.Fits.{BodyFits, IsFrozenAt}
@@ -56,11 +56,3 @@ currents (suc zero) near = refl
 currents (suc (suc zero)) near = refl
 currents (suc (suc (suc zero))) near = refl
 currents (suc (suc (suc (suc f)))) near = absurd (omega (arith, near))
-
--- what was put last stands in the list
-pub in-snoc : {A : Type 0} (l : List A) (x : A) → In x (l ++ x ∷ [])
-in-snoc l x = record { at = length l; is = at-end l x }
-  where
-    at-end : {A : Type 0} (l : List A) (x : A) → slice_get (l ++ x ∷ []) (length l) ≡ Some x
-    at-end [] x = refl
-    at-end (y ∷ l) x = at-end l x

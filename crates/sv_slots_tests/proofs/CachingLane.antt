@@ -1,21 +1,20 @@
 -- A lane that has nothing makes its slot of a family cache the current SuperVersion.
-use Rattle.std.proofs.Common.{None, Some, [], ap, arith, inr, length, refl, subst, suc, sym, ℕ, ◌*◌, ◌+◌, ◌<◌, ◌∙◌, ◌∷◌, ◌≡◌, ◌≤◌, ◌⊎◌}
+use Rattle.std.proofs.Common.{[], ap, arith, inr, length, refl, subst, suc, sym, ℕ, ◌*◌, ◌+◌, ◌<◌, ◌∙◌, ◌∷◌, ◌≡◌, ◌≤◌}
 use Rattle.sv_model.specs.Lists.{In, at, same, total}
 use Rattle.sv_model.specs.Supers.{current_of}
-use Rattle.sv_model.specs.Tasks.{Task}
 use Rattle.sv_model.specs.Turns.{IsAccounted}
 use Rattle.sv_rule.proofs.Sums.{at-put_same, length-without, same-self}
-use Rattle.sv_rule.specs.Fits.{BodyFits}
 use Rattle.sv_rule.specs.LockPlays.{MayGiveDb, gave_db, took_db}
 use Rattle.sv_rule.specs.ReferencePlays.{CanAdd, added}
 use Rattle.sv_rule.specs.SeatPlays.{IsIdle}
 use Rattle.sv_rule.specs.Table.{slot_of}
-use Rattle.sv_rule.specs.Views.{Bodied, Desk, LaneView, SlotView, away, borrow, idle}
+use Rattle.sv_rule.specs.Views.{Bodied, Desk, LaneView, away, borrow, idle}
+use Rattle.sv_slots.proofs.Lent.{in-last}
 use Rattle.sv_slots.proofs.Unchanged.{gives_found}
 use Rattle.sv_model.specs.Books.{Books}
 use Rattle.sv_slots.specs.Borrows.{borrowed, given_back, swept_back}
 use Rattle.sv_slots.specs.Seats.{HasDesk, Lends}
-use Rattle.sv_slots_tests.proofs.Bodies.{bodied_of, bodies-fit, currents, in-snoc}
+use Rattle.sv_slots_tests.proofs.Bodies.{bodied_of, bodies-fit, currents}
 use Rattle.sv_slots_tests.specs.Sweeping.{IsFree}
 use Rattle.sv_slots_tests.specs.Unused.{CanBorrow}
 use Rattle.sv_slots_tests.specs.World.{body_of, world_books}
@@ -91,7 +90,7 @@ module _ (f : ℕ) (near : f < 4) (v : LaneView) (bare : IsIdle v) where
 
   pub is_known : (w : LaneView) → w ≡ left_by f v → (x : Bodied) → x ≡ bodied_of f → In x w.known.bodies
   is_known w e x is = subst (λ (z : LaneView). In x z.known.bodies) (sym e) (subst (λ (y : Bodied). In y (left_by f v).known.bodies) (sym is)
-      (in-snoc v.known.bodies (bodied_of f)))
+      (in-last v.known.bodies (bodied_of f)))
 
   few : length (lent_to f v).hand ≤ 1
   few = omega (arith, length-without (pack_of f) (pack_of f ∷ v.hand), ap (λ l. length l) bare.hand)

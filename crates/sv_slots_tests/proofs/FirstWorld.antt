@@ -1,5 +1,5 @@
 -- The books of the tests are those of an opening.
-use Rattle.std.proofs.Common.{List, None, Option, Some, [], ap, arith, false, length, map, refl, replicate, subst, suc, sym, true, zero, ℕ, ◌<◌, ◌∙◌, ◌∷◌, ◌≡◌}
+use Rattle.std.proofs.Common.{List, None, Some, [], ap, arith, false, length, map, refl, replicate, subst, suc, sym, true, zero, ℕ, ◌<◌, ◌∷◌, ◌≡◌}
 use Rattle.std.specs.Prelude.{slice_get}
 use Rattle.sv_laws.proofs.Opened.{first-opening, opening-sound}
 use Rattle.sv_model.proofs.Entries.{entry_none, every_none, get_none, in-none}

@@ -5,3 +5,4 @@ pub mod CachingLane
 pub mod OpenedLanes
 pub mod Changes
 pub mod Sweeps
+pub mod GivenLocks

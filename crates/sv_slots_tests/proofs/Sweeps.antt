@@ -3,13 +3,8 @@ use Rattle.std.proofs.Common.{Bool, List, None, Option, Some, [], ap, arith, fal
 use Rattle.sv_model.specs.Books.{Books}
 use Rattle.sv_model.specs.Families.{default_family}
 use Rattle.sv_model.specs.Lists.{same, total}
-use Rattle.sv_model.specs.Tasks.{Task}
 use Rattle.sv_model.specs.Turns.{IsAccounted, Turns}
-use Rattle.sv_model.specs.declared.writes.Write.{Write}
-use Rattle.sv_model.proofs.AfterLaws.{after-itself}
-use Rattle.sv_rule.proofs.Basics.{append_none, every_none}
 use Rattle.sv_rule.proofs.Sums.{same-self}
-use Rattle.sv_rule.proofs.TurnsSame.{stands-same}
 use Rattle.sv_rule.specs.Blanks.{desk_of, old_in, taken_in}
 use Rattle.sv_rule.specs.LockPlays.{MayGiveDb, gave_db, took_db}
 use Rattle.sv_rule.specs.ReferencePlays.{MayDropAt, MayOpen, MaySettle, dropped, has_taken_at, learnt, lowers, settled}
@@ -19,6 +14,7 @@ use Rattle.sv_rule.specs.SweepPlays.{Sweeps, beyond, works}
 use Rattle.sv_rule.specs.Sums.{without}
 use Rattle.sv_rule.specs.Views.{Bodied, Desk, Known, LaneView, idle, sweeping}
 use Rattle.sv_slots.proofs.Laws.{desk_is_of}
+use Rattle.sv_slots.proofs.Unchanged.{gives_still, turned-still}
 use Rattle.sv_slots.specs.Installs.{installed, retired, swept_on}
 use Rattle.sv_slots.specs.References.{IsDropped, IsMore, NotLast}
 use Rattle.sv_slots.specs.declared.refs.Sub.{Sub}
@@ -28,51 +24,6 @@ use Rattle.sv_slots_tests.proofs.Changes.{cleanup-ends, cleanup-turns, end-ends,
 use Rattle.sv_slots_tests.specs.Stages.{cleaned_books, ended_books, installed_books, new_bodied, new_pack, old_pack}
 use Rattle.sv_slots_tests.specs.Sweeping.{IsFree, IsLeft, IsOwing, IsSweeping}
 use Rattle.sv_slots_tests.specs.World.{body_of, world_books}
-
--- the books of a turn may stay as they are
-pub stays-on : (l : ℕ) (a b : Books) (t u : Task) (more : List Write) → Turns l a t b u more → Turns l b u b u []
-stays-on l a b t u more h = record {
-  counts = record {
-    lawful = h.counts.lawful;
-    later = after-itself b;
-    journal = append_none b.journal;
-    own = every_none (λ (w : Write). w.lane ≡ l);
-    outputs = λ n. refl;
-    grabbed = λ n. refl;
-    removed = λ n. refl;
-    ended = λ n. refl;
-    jobs = refl;
-    holds = refl;
-    others_hold = λ k n. refl;
-    handles = λ f. refl;
-    others_handle = λ k f n. refl;
-    default = refl;
-    output = λ o e. inl (record { was = o; is = e; same = refl });
-    gone = λ n h. inl h;
-    begins = λ none one. absurd (omega (arith, none, one));
-    quiet = h.counts.quiet;
-    loud = h.counts.loud;
-    listed = λ i n e. inl (record { at = i; is = e });
-  };
-  written = λ o e w. e;
-  live = λ n h. inl h;
-  gone = λ n h. inl h;
-  marks = λ k h z. h;
-}
-
-pub gives_back : (v : LaneView) (d : Desk) → v.seat.spent ≡ false → v.locks.db ≡ Some d → d.work ≡ idle → d.due ≡ []
-    → v.locks.cell ≡ None → Turns v.known.lane d.books v.known.task d.books v.known.task []
-    → MayGiveDb v d.books v.known.task
-gives_back v d alive has resting due bare stays = record {
-  alive = alive;
-  desk = d;
-  has = has;
-  resting = resting;
-  due = due;
-  cell = bare;
-  turns = stays;
-  stands = stands-same d.books;
-}
 
 -- ---- the current changes
 
@@ -106,7 +57,7 @@ module _ (v : LaneView) (bare : IsIdle v) (own : IsAccounted v.known.lane world_
         db = refl;
         cell = bare.cell;
         hand = ap (λ (l : List ℕ). old_pack ∷ l) bare.hand;
-        stays = stays-on v.known.lane world_books installed_books v.known.task v.known.task []
+        stays = turned-still v.known.lane world_books installed_books v.known.task v.known.task []
             (install-turns v.known.lane v.known.task own);
       })
 
@@ -136,7 +87,7 @@ module _ (v : LaneView) (bare : IsIdle v) (own : IsAccounted v.known.lane world_
         db = refl;
         cell = bare.cell;
         hand = ap (λ (l : List ℕ). old_pack ∷ without 0 l) bare.hand;
-        stays = stays-on v.known.lane world_books ended_books v.known.task v.known.task []
+        stays = turned-still v.known.lane world_books ended_books v.known.task v.known.task []
             (end-turns v.known.lane v.known.task own);
       })
 
@@ -243,7 +194,7 @@ module _ (b : Books) (v : LaneView) (s : IsSweeping b v.seat.lanes v) (p : ℕ) 
     bare = ap (λ (z : LaneView). z.locks.cell) (is_dropped p answer v w is) ∙ s.cell
 
     pub last_gives : MayGiveDb w b w.known.task
-    last_gives = gives_back w (record { books = b; work = idle; due = [] }) alive rests refl refl bare
+    last_gives = gives_still w (record { books = b; work = idle; due = [] }) alive rests refl refl bare
         (subst (λ (k : Known). Turns k.lane b k.task b k.task []) (sym same_known) s.stays)
 
     left_free : (u : LaneView) → u ≡ gave_db b w.known.task w → IsFree u
@@ -293,9 +244,9 @@ module _ (owed : Owed) (v : LaneView) (o : IsOwing owed v)
       let same : u ≡ settled owed.pack cleaned_books v.known.task [] (desk_of z) z = is
       ∙ (λ i. settled owed.pack cleaned_books (e i).known.task [] (desk_of (e i)) (e i)) in
       subst (λ (y : LaneView). MayGiveDb y cleaned_books y.known.task) (sym same)
-      (gives_back (settled owed.pack cleaned_books v.known.task [] (desk_of z) z)
+      (gives_still (settled owed.pack cleaned_books v.known.task [] (desk_of z) z)
       (record { books = cleaned_books; work = idle; due = [] }) o.free.alive refl refl refl o.free.cell
-      (stays-on v.known.lane installed_books cleaned_books v.known.task v.known.task []
+      (turned-still v.known.lane installed_books cleaned_books v.known.task v.known.task []
       (cleanup-turns v.known.lane v.known.task own)))
 
 -- ---- the new reference

@@ -6,7 +6,7 @@ use crate::stages::Stage;
 use std::rt::HostRuntime;
 use std::test::Fail;
 use sv_model::{FamilyId, Pack, SvSerial};
-use sv_slots::{Miss, Sub};
+use sv_slots::{Back, Miss, Sub};
 
 const OLD: Pack = Pack {
     serial: SvSerial(1),
@@ -60,6 +60,31 @@ fn sweeps_what_is_cached(rt: HostRuntime) -> Result<(), Fail> {
     assert_eq!(rt; (own, other), (false, true));
     assert!(rt; matches!(left, Sub::Last(_)));
     assert!(rt; matches!(core.try_borrow(&mut second, FamilyId(0)), Err(Miss::Empty)));
+    Ok(())
+}
+
+// The other lane has borrowed the old one: the sweep leaves its mark, and the lane that gives back cleans.
+#[test]
+fn tells_a_borrower_of_the_sweep(rt: HostRuntime) -> Result<(), Fail> {
+    let (core, mut first, mut second) = double(rt.alloc())?;
+    fill(&rt, rt.alloc(), &core, &mut second, 0)?;
+    let Ok(borrow) = core.try_borrow(&mut second, FamilyId(0)) else {
+        return Err(Fail::from("no borrow"));
+    };
+    let new = reference(rt.alloc(), 5, 4, 0)?;
+    let old = reference(rt.alloc(), 1, 0, 0)?;
+    let (own, other, left) = install(&rt, &core, &mut first, new, old);
+    assert_eq!(rt; (own, other), (false, false));
+    assert!(rt; matches!(left, Sub::More));
+    let Back::Swept(sv) = core.give_back(&mut second, borrow) else {
+        return Err(Fail::from("not swept"));
+    };
+    let Sub::Last(owed) = core.drop_ref(&mut second, sv) else {
+        return Err(Fail::from("not the last"));
+    };
+    assert_eq!(rt; owed.pack(), OLD);
+    assert_eq!(rt; core.counts(&second).swept, 1);
+    clean(&rt, &core, &mut second, owed);
     Ok(())
 }
 
