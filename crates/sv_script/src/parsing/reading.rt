@@ -11,7 +11,7 @@ use crate::parsing::command_lines::command_line;
 use crate::parsing::errors::WordError;
 use crate::parsing::line_kinds::{is_phase_end, is_skipped};
 use crate::parsing::progress::Progress;
-use crate::parsing::splitting::{without_return, words};
+use crate::parsing::splitting::{read_words, without_return};
 use crate::scripts::{BadLine, Line, MAX_PHASES, Script, ScriptError};
 use std::alloc::Global;
 use sv_model::{Items, OutOfMemory};
@@ -60,14 +60,19 @@ fn take(alloc: Global, read: &mut Progress, words: &[&[u8]]) -> Result<(), Scrip
     Ok(())
 }
 
-// Takes a line by its bytes.
-fn take_line(alloc: Global, read: &mut Progress, line: &[u8]) -> Result<(), ScriptError>
+// Takes a line by its bytes. Its words come into the list, whose memory serves each line.
+fn take_line<'a>(
+    alloc: Global,
+    read: &mut Progress,
+    words: &mut Vec<&'a [u8]>,
+    line: &'a [u8],
+) -> Result<(), ScriptError>
     requires { read.old.number + 1 < 2 ^ 64 }
     ensures goes_on { OnOk result (GoesOn read.old (words_of (strip_carriage_return line.now)) read.new) }
     ensures stops { IfErr result (StopsAt read.old (words_of (strip_carriage_return line.now))) }
 {
-    match words(alloc, without_return(line)) {
-        Ok(words) => take(alloc, read, words.as_slice()),
+    match read_words(words, without_return(line)) {
+        Ok(()) => take(alloc, read, words.as_slice()),
         Err(error) => Err(ScriptError::from(OutOfMemory::from(error))),
     }
 }
@@ -91,8 +96,9 @@ fn script_from(alloc: Global, bytes: &[u8]) -> Result<Script, ScriptError>
         phase: 0,
         lines: Items::from_vec(Vec::new(alloc)),
     };
+    let mut words = Vec::new(alloc);
     for line in bytes.split(|byte| *byte == b'\n') {
-        take_line(alloc, &mut read, line)?;
+        take_line(alloc, &mut read, &mut words, line)?;
     }
     Ok(Script {
         lanes: lanes_of(read.lines.as_slice()),

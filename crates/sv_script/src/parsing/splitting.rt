@@ -1,9 +1,9 @@
 // Lines and words.
-ghost use Rattle.std.specs.Prelude.{◌≡◌, IfOk, map};
+ghost use Rattle.std.specs.Prelude.{◌≡◌, OnOk, map};
 ghost use Rattle.std.specs.Str.Lines.{strip_carriage_return};
 ghost use Rattle.sv_script.specs.Words.{is_blank, words_of};
 
-use std::alloc::{AllocError, Global};
+use std::alloc::AllocError;
 
 fn is_blank(byte: u8) -> bool
     ensures { result ≡ is_blank byte }
@@ -21,11 +21,15 @@ pub(crate) fn without_return(line: &[u8]) -> &[u8]
     }
 }
 
-// The words of a line, in order.
-pub(crate) fn words(alloc: Global, line: &[u8]) -> Result<Vec<&[u8]>, AllocError>
-    ensures { IfOk result (λ v. map (λ word. word.now) v.items ≡ words_of line.now) }
+// Puts the words of a line, in order, in place of what the list has.
+pub(crate) fn read_words<'a>(words: &mut Vec<&'a [u8]>, line: &'a [u8]) -> Result<(), AllocError>
+    ensures { OnOk result (map (λ word. word.now) words.new.items ≡ words_of line.now) }
 {
-    line.split(|byte| is_blank(*byte))
-        .filter(|piece| !piece.is_empty())
-        .collect(alloc)
+    words.clear();
+    for piece in line.split(|byte| is_blank(*byte)) {
+        if !piece.is_empty() {
+            words.push(piece)?;
+        }
+    }
+    Ok(())
 }

@@ -1,9 +1,10 @@
 // The pieces of which texts are made.
-ghost use Rattle.std.specs.Prelude.{◌≡◌, ◌++◌, ◌/◌, ◌%◌, ◌<◌, OnOk, decimal, flat_map};
+ghost use Rattle.std.specs.Prelude.{◌≡◌, ◌++◌, ◌<◌, OnOk, decimal, flat_map};
 ghost use Rattle.sv_script.specs.Items.{hex_digit, byte_text, item_text};
 ghost use Rattle.sv_script.specs.Texts.{numbered, listed};
 
 use crate::plain_bytes::is_plain;
+use itoa::Buffer;
 use sv_model::{FileNumber, OutOfMemory};
 
 // Appends the bytes.
@@ -15,17 +16,11 @@ pub(crate) fn push_bytes(out: &mut Vec<u8>, bytes: &[u8]) -> Result<(), OutOfMem
 }
 
 // Appends the number in decimal.
-#[tactic(auto, using(std::proofs::lemmas::Fmt::decimal_step, std::proofs::lemmas::Fmt::decimal_digit))]
 pub(crate) fn push_number(out: &mut Vec<u8>, n: u64) -> Result<(), OutOfMemory>
     ensures { OnOk result (out.new.items ≡ out.old.items ++ decimal n) }
 {
-    if n < 10 {
-        out.push(b'0' + n as u8)?;
-        return Ok(());
-    }
-    push_number(out, n / 10)?;
-    out.push(b'0' + (n % 10) as u8)?;
-    Ok(())
+    let mut digits = Buffer::new();
+    push_bytes(out, digits.format(n).as_bytes())
 }
 
 // Appends the word and the number.
