@@ -6,7 +6,13 @@ mod family_tests;
 #[cfg(test)]
 mod file_tests;
 #[cfg(test)]
+mod opening_tests;
+#[cfg(test)]
 mod output_tests;
+#[cfg(test)]
+mod reading_tests;
+#[cfg(test)]
+mod row_tests;
 #[cfg(test)]
 mod snapshot_tests;
 #[cfg(test)]
