@@ -1,13 +1,10 @@
 -- A lane that can borrow can do so again after a pair that hit and was kept.
-use Rattle.std.proofs.Common.{ap, arith, length, subst, sym, ℕ, ◌<◌, ◌∙◌, ◌≡◌}
-use Rattle.sv_model.specs.Lists.{In, at}
+use Rattle.std.proofs.Common.{ap, arith, length, ℕ, ◌<◌, ◌∙◌, ◌≡◌}
 use Rattle.sv_model.specs.declared.sv_refs.SvRef.{SvRef}
 use Rattle.sv_rule.proofs.Sums.{at-put_same}
 use Rattle.sv_rule.specs.Table.{slot_of}
-use Rattle.sv_rule.specs.Views.{Body, LaneView, away, borrow}
+use Rattle.sv_rule.specs.Views.{Body, LaneView, away}
 use Rattle.sv_slots.specs.Borrows.{IsHit, given_back}
-use Rattle.sv_slots.specs.Seats.{Lends, bodied}
-use Rattle.sv_slots_tests.proofs.Bodies.{in-snoc}
 use Rattle.sv_slots_tests.specs.Unused.{CanBorrow}
 use Rattle.sv_slots_tests.specs.World.{body_of}
 use Rattle.sv_slots_tests.specs.declared.world.Shared.{Shared}
@@ -16,17 +13,6 @@ abbrev pub body : Shared → Body
 body shared = body_of shared.family
 
 module _ {B : Type 0} (of : B → Body) (f : ℕ) (sv : SvRef B) (v w : LaneView) (hit : IsHit of f sv v w) where
-  pub hit_lends : Lends w f sv.pack
-  hit_lends = (
-    at 0 v.known.seen f,
-    ap (λ (z : LaneView). slot_of z f) hit.view
-        ∙ at-put_same away v.slots.slot f (borrow sv.pack (at 0 v.known.seen f)),
-  )
-
-  pub hit_knows : In (bodied of sv) w.known.bodies
-  hit_knows = subst (λ (z : LaneView). In (bodied of sv) z.known.bodies) (sym hit.view)
-      (in-snoc v.known.bodies (bodied of sv))
-
   pub hit_room : length v.hand < 65600 → length w.hand < 65600
   hit_room room = omega (arith, ap (λ (z : LaneView). length z.hand) hit.view, room)
 
