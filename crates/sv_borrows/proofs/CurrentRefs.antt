@@ -20,6 +20,7 @@ use Rattle.sv_model.proofs.Entries.{some}
 use Rattle.sv_model.proofs.Registers.{entry_le}
 use Rattle.sv_objects.specs.declared.bodies.Body.{Body}
 use Rattle.sv_objects.specs.Shown.{shown}
+use Rattle.sv_rule.proofs.FittingBodies.{live-fits}
 use Rattle.sv_rule.specs.Fits.{BodyFits, IsFrozenAt, cell_of}
 use Rattle.sv_rule.specs.ReferencePlays.{CanAdd}
 use Rattle.sv_rule.specs.SlotPlays.{IsShown}
@@ -62,24 +63,19 @@ module _ (b : Books) where
   pub ref-fits : Lawful b → (serial p : ℕ) (body : Body) → (r : IsRefOf b serial p body) → r.it.live ≡ true
       → BodyFits b (record { pack = p; body = body_of body })
   ref-fits lawful serial p body r live =
-      let d = lawful.descriptors serial r.it r.at live in
-      let list : r.body_is.list ≡ d.list = some (sym r.body_is.list_at ∙ d.list_at) in
-      let version : r.body_is.version ≡ d.version = some (sym r.body_is.version_at ∙ d.version_at) in
-      let active : r.body_is.cell.it ≡ d.active = some (sym r.body_is.cell.at ∙ d.active_at) in
-      record {
-        serial = serial;
-        super = r.it;
-        at = r.at;
-        pack_is = r.pack_is;
-        within = (lawful.places serial r.it r.at live).0;
-        descriptor = r.body_is.descriptor_is;
-        fits = d;
-        cell_is = sym r.body_is.cell.is ∙ ap (λ (m : Memtable). m.cell) active;
-        members = ap (λ (l : MemtableList). l.members) (sym list)
-            ∙ members-are r.body_is.list.members (shown body.frozen) r.body_is.frozen;
+      live-fits b lawful serial r.it r.at (record { pack = p; body = body_of body }) r.pack_is (record {
+        descriptor_is = r.body_is.descriptor_is;
+        active = r.body_is.cell.it;
+        active_at = r.body_is.cell.at;
+        cell_is = sym r.body_is.cell.is;
+        list = r.body_is.list;
+        list_at = r.body_is.list_at;
+        members = members-are r.body_is.list.members (shown body.frozen) r.body_is.frozen;
         frozen = frozen-are r.body_is.list.members (shown body.frozen) r.body_is.frozen;
-        files = r.body_is.files_are ∙ ap (λ (v : Version). v.files) version;
-      }
+        version = r.body_is.version;
+        version_at = r.body_is.version_at;
+        files_are = r.body_is.files_are;
+      }) live
 
 -- ---- the current of a family
 

@@ -6,7 +6,6 @@ use Rattle.sv_borrows.proofs.Alike.{alike-itself, raised-none}
 use Rattle.sv_model.specs.Books.{Books}
 use Rattle.sv_model.specs.Cells.{Cell}
 use Rattle.sv_model.specs.Lists.{Every, In, at}
-use Rattle.sv_model.specs.Turns.{Turns}
 use Rattle.sv_model.proofs.Entries.{get_none, get_one, in-none, in_append, some}
 use Rattle.sv_rule.proofs.Basics.{append_none, true_not}
 use Rattle.sv_rule.specs.Blanks.{desk_of}
@@ -15,7 +14,7 @@ use Rattle.sv_rule.specs.LockPlays.{MayWriteCell, raised, read_of, takings, took
 use Rattle.sv_rule.specs.Views.{Desk, LaneView, RowsRead, idle}
 use Rattle.sv_rule.proofs.TurnsSame.{stands-same}
 use Rattle.sv_slots.proofs.Laws.{desk_is_of}
-use Rattle.sv_slots.proofs.Unchanged.{gives_found}
+use Rattle.sv_slots.proofs.Unchanged.{still-turns}
 
 module _ (b : Books) (due : List ℕ) (v : LaneView) (at_d : IsAtDesk b due v) where
   abbrev desk : Desk
@@ -40,12 +39,6 @@ module _ (b : Books) (due : List ℕ) (v : LaneView) (at_d : IsAtDesk b due v) w
       }
 
   module _ (c : ℕ) (x : Option Cell) (u : LaneView) (took : u ≡ took_cell c x v) where
-    still : Turns v.known.lane b v.known.task b v.known.task []
-    still =
-        let bare : Desk = record { books = b; work = idle; due = [] } in
-        let m = gives_found (record v { locks = record v.locks { db = Some bare } }) bare at_d.alive refl refl refl at_d.cell at_d.own in
-        subst (λ (k : Desk). Turns v.known.lane k.books v.known.task b v.known.task []) (some (sym m.has)) m.turns
-
     pub may-vacate : Free b.memtables c → MayWriteCell u c b u.known.task [] None 0 0
     may-vacate free = subst (λ (z : LaneView). MayWriteCell z c b z.known.task [] None 0 0) (sym (took ∙ took-locked c x)) (record {
       alive = at_d.alive;
@@ -53,7 +46,7 @@ module _ (b : Books) (due : List ℕ) (v : LaneView) (at_d : IsAtDesk b due v) w
       has = at_d.db;
       found = x;
       cell = refl;
-      turns = still;
+      turns = still-turns v.known.lane b v.known.task at_d.own;
       stands = stands-same b;
       more_is = inl refl;
       says = is_vacant free refl;
