@@ -49,10 +49,10 @@ went-free a b lawful s x h cells gone i c e =
     let cell = lawful.cells w.id w.it w.at w.was_live in (
       omega (arith, cell.0, w.is),
       λ o. let was = ((h.memtables.exact o.id).0 (record { it = o.it; at = o.at; live = o.live })).0 in
-      let mem : was.it.cell ≡ w.it.cell = same_cell o.id o.it o.at was.it was.at ∙ o.is ∙ sym w.is in
-      let id : o.id ≡ w.id = cell.1 o.id was.it was.at was.live mem in
-      w.gone (subst (λ n. IsLiveMemtable b.memtables n) id
-      (record { it = o.it; at = o.at; live = o.live })),
+          let mem : was.it.cell ≡ w.it.cell = same_cell o.id o.it o.at was.it was.at ∙ o.is ∙ sym w.is in
+          let id : o.id ≡ w.id = cell.1 o.id was.it was.at was.live mem in
+          w.gone (subst (λ n. IsLiveMemtable b.memtables n) id
+          (record { it = o.it; at = o.at; live = o.live })),
     )
   where
     same_cell : (n : ℕ) (y : Memtable) → entry b.memtables n ≡ Some y → (z : Memtable) → entry a.memtables n ≡ Some z

@@ -33,10 +33,14 @@ pub nothing-cleaned : (a : Books) (v : LaneView) → IsAtDesk a [] v → v.owes 
 nothing-cleaned a v at_d none = (
   inl refl,
   at_d.own,
-  (v.known.seen, alike-itself v.known.seen, λ i. record v {
-    locks = record v.locks { db = at_d.db i };
-    owes = none i;
-  }),
+  (
+    v.known.seen,
+    alike-itself v.known.seen,
+    λ i. record v {
+      locks = record v.locks { db = at_d.db i };
+      owes = none i;
+    },
+  ),
 )
 
 module _ (a b : Books) (v : LaneView) (at_d : IsAtDesk a [] v) (s : ℕ) (x : SuperVersion) (h : IsCleaned a b s x)

@@ -94,10 +94,10 @@ module _ (b : Books) (lawful : Lawful b) (f : ℕ) (at : HasCurrentAt b f) (p : 
 
   pub current-pack : p ≡ current_of b f
   current-pack = r.pack_is ∙ sym (
-    ap (λ o. pack_of_serial b.supers (current_serial o)) at.at
-    ∙ ap (pack_of_serial b.supers) at.is
-    ∙ ap (pack_at at.serial) r.at
-  )
+      ap (λ o. pack_of_serial b.supers (current_serial o)) at.at
+      ∙ ap (pack_of_serial b.supers) at.is
+      ∙ ap (pack_at at.serial) r.at
+      )
 
   pub current-big : 256 ≤ p
   current-big = omega (arith, r.pack_is, (entry_le b.supers at.serial r.it r.at).0)

@@ -64,10 +64,10 @@ module _ (b : Books) (due : List ℕ) (v : LaneView) (at_d : IsAtDesk b due v) w
           s,
           raised-none v.known.seen,
           wrote ∙ (λ i. wrote_cell (d i) c b (here i).known.task [] 0 0 (here i))
-          ∙ (λ i. record v {
-            locks = record v.locks { db = bare i; cell = sym at_d.cell i };
-            known = record v.known { mine = mine i; seen = s };
-          }),
+              ∙ (λ i. record v {
+                locks = record v.locks { db = bare i; cell = sym at_d.cell i };
+                known = record v.known { mine = mine i; seen = s };
+              }),
         )
 
 -- ---- one after the other

@@ -47,7 +47,6 @@ some_op (Some op) v e = (op, refl, some e)
 
 module _ (f : ℕ) (x : Bodied) (v : LaneView) (may : MayRead f x v) (key : List ℕ) (found : Option (Option (List ℕ)))
     (cut : ℕ) (w : LaneView) (reads : Reads 1 v w) (m : MetAt f x key found cut v w) where
-
   -- ---- in books that fit what the lane knows at last
 
   module _ (u : LaneView) (bodies : u.known.bodies ≡ v.known.bodies) (grows : Grows w.known u.known) (b : Books)

@@ -111,9 +111,13 @@ module _ (v : LaneView) (free : IsFree v) (c : ℕ) (x : Option Cell) (u : LaneV
     cell-read it is =
         let r : RowsRead = record { mem = it.id; rows = it.rows; whole = list_any (closes v.known.seen it) v.known.bodies } in
         let one : read_of v.locks.db v.known.bodies v.known.seen x ≡ r ∷ []
-        = (λ i. read_of (no_db i) v.known.bodies v.known.seen (is i)) in
-        (r, subst (λ (z : LaneView). In r z.known.rows) (sym is_view)
-        (subst (λ l. In r (v.known.rows ++ l)) (sym one) (in-last v.known.rows r)), refl, refl)
+        = (λ i. read_of (no_db i) v.known.bodies v.known.seen (is i)) in (
+          r,
+          subst (λ (z : LaneView). In r z.known.rows) (sym is_view)
+              (subst (λ l. In r (v.known.rows ++ l)) (sym one) (in-last v.known.rows r)),
+          refl,
+          refl,
+        )
 
     pub cell-seen : cut ≤ at 0 w.known.seen f
     cell-seen = subst (λ (z : LaneView). cut ≤ at 0 z.known.seen f) (sym is_view) (raised-over v.known.seen f cut)

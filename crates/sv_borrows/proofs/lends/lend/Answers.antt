@@ -24,17 +24,22 @@ lend_locked-requires-in-Err-Stale-clause-lend g c =
 
 pub returns-in-Ok-clause-ok : goal.returns-in-Ok-clause-ok
 returns-in-Ok-clause-ok g c =
-    let h = c.in-Ok.ensures.ok in
-    (h.0, by-hit c.args.family c.args.seat.now.seat.me.0 (bodied body_of c.in-Ok.lent.sv) c.try_borrow.new.seat.seat.me.0
-    h.1.shown h.1.view)
+    let h = c.in-Ok.ensures.ok in (
+      h.0,
+      by-hit c.args.family c.args.seat.now.seat.me.0 (bodied body_of c.in-Ok.lent.sv) c.try_borrow.new.seat.seat.me.0
+          h.1.shown h.1.view,
+    )
 
 pub returns-in-Err-Empty-clause-ok : goal.returns-in-Err-Empty-clause-ok
 returns-in-Err-Empty-clause-ok g c =
     let v = c.args.seat.now.seat.me.0 in let u = c.try_borrow.new.seat.seat.me.0 in let f = c.args.family in
     let m = subst (λ m. IsMiss body_of f m v u) c.in-Err-Empty.field-0-is c.in-Err-Empty.ensures.err in
     if-ok _ _ c.lend_locked.result
-    (λ l h. (h.0, by-lent f v c.requires.free.0.locks c.requires.free.1 u (is-missed f v m.0 u m.2) (bodied body_of l.sv)
-    c.lend_locked.new.seat.seat.me.0 h.1 h.2))
+    (λ l h. (
+      h.0,
+      by-lent f v c.requires.free.0.locks c.requires.free.1 u (is-missed f v m.0 u m.2) (bodied body_of l.sv)
+          c.lend_locked.new.seat.seat.me.0 h.1 h.2,
+    ))
     c.lend_locked.ensures.ok
 
 pub returns-in-Err-Empty-clause-err : goal.returns-in-Err-Empty-clause-err
@@ -55,8 +60,11 @@ returns-in-Err-Stale-clause-ok g c =
     let missed = stale-missed f v c.requires.free.0.locks (bodied body_of c.in-Err-Stale.cached) c.in-Err-Stale.field-0-1 t
     m.view c.drop_ref-left.result u c.drop_ref-left.ensures.view in
     if-ok _ _ w.result
-    (λ l h. (h.0, by-lent f v c.requires.free.0.locks c.requires.free.1 u missed (bodied body_of l.sv) w.new.seat.seat.me.0
-    h.1 h.2))
+    (λ l h. (
+      h.0,
+      by-lent f v c.requires.free.0.locks c.requires.free.1 u missed (bodied body_of l.sv) w.new.seat.seat.me.0
+          h.1 h.2,
+    ))
     w.ensures.ok
 
 pub returns-in-Err-Stale-clause-err : goal.returns-in-Err-Stale-clause-err

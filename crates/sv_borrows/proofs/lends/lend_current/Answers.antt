@@ -49,8 +49,8 @@ returns-clause-ok g c =
       c.borrow_locked.ensures.borrow.0,
       subst (IsShown c.args.family) (sym same_x)
           (lend-shown c.args.held.now.books c.deref.result.now.books (ap (λ (z : StateSeen). z.books) (c.deref.ensures ∙ c.held.view_is))
-    c.args.seat.now.seat.me.0 c.requires.desk c.args.family c.requires.current.0 c.requires.current.1
-    c.current.result.now.pack c.current.result.now.body.value c.current.ensures),
+          c.args.seat.now.seat.me.0 c.requires.desk c.args.family c.requires.current.0 c.requires.current.1
+          c.current.result.now.pack c.current.result.now.body.value c.current.ensures),
       c.borrow_locked.ensures.view
           ∙ (λ i. borrowed c.args.family ((ap (λ (z : Bodied). z.pack) ok.0 ∙ ap (λ (z : Bodied). z.pack) (sym same_x)) i)
           ((ok.1 ∙ ap (λ (z : Bodied). added z c.args.seat.now.seat.me.0) (sym same_x)) i)),

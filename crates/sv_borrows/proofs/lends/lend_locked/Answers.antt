@@ -39,9 +39,13 @@ returns-clause-ok g c =
     let v = c.args.seat.now.seat.me.0 in
     let x = c.lend_current-lent.new.seat.seat.me.0 in
     if-ok _ _ c.lend_current-lent.result
-    (λ l h. (h.0, h.1, is-lent v c.requires.free t.result.books t.new.seat.seat.me.0 t.ensures.took t.ensures.told
-    c.clean.new.held.books c.clean.new.seat.seat.me.0 c.clean.ensures.cleaned c.args.family (bodied body_of l.sv) x h.2
-    c.give_state.new.seat.seat.me.0 c.give_state.ensures.gave))
+    (λ l h. (
+      h.0,
+      h.1,
+      is-lent v c.requires.free t.result.books t.new.seat.seat.me.0 t.ensures.took t.ensures.told
+          c.clean.new.held.books c.clean.new.seat.seat.me.0 c.clean.ensures.cleaned c.args.family (bodied body_of l.sv) x h.2
+          c.give_state.new.seat.seat.me.0 c.give_state.ensures.gave,
+    ))
     c.lend_current-lent.ensures.ok
 
 pub returns-clause-err : goal.returns-clause-err

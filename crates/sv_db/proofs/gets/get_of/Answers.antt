@@ -20,8 +20,7 @@ pub give-requires-clause-lent : goal.give-requires-clause-lent
 give-requires-clause-lent g c =
     let ok = c.in_ok-lent.ensures.ok in let sv = c.in_ok-lent.lent.sv in let f = c.args.family in
     let v = c.args.seat.now.seat.me.0 in let w₁ = c.lend.new.seat.seat.me.0 in let w₂ = c.read-found.new.seat.seat.me.0 in
-    let x = bodied body_of sv in
-    (
+    let x = bodied body_of sv in (
       subst (λ n. n < 16) (sym ok.0) c.requires.lend.0,
       ok.1.shown.pack,
       subst (λ g. Lends w₂ g sv.pack) (sym ok.0)
