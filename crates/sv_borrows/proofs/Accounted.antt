@@ -1,5 +1,5 @@
 -- What a lane has of its own after a cleanup is the books' still.
-use Rattle.std.proofs.Common.{List, Some, [], ap, arith, subst, sym, refl, ℕ, inl, inr, zero, suc, ◌∷◌, ◌∙◌, ◌≡◌, ◌≤◌, ◌<◌, ◌/◌, ◌%◌, ◌+◌, ◌*◌, ◌≢◌, Option, None}
+use Rattle.std.proofs.Common.{List, Some, [], ap, arith, subst, sym, refl, ℕ, zero, suc, ◌∷◌, ◌∙◌, ◌≡◌, ◌≤◌, ◌<◌, ◌/◌, ◌%◌, ◌+◌, ◌*◌, ◌≢◌}
 use Rattle.std.specs.Prelude.{slice_get, length}
 use Rattle.sv_borrows.specs.Desks.{MayGo, owed_of}
 use Rattle.sv_laws.specs.Cleaning.{AreCellsGone, IsCleaned}
@@ -11,7 +11,6 @@ use Rattle.sv_model.specs.Registers.{entry}
 use Rattle.sv_model.specs.Supers.{LiveAt, current_of, pack_at, pack_of_serial, current_serial}
 use Rattle.sv_model.specs.Tasks.{Task}
 use Rattle.sv_model.specs.Turns.{IsAccounted, Turns}
-use Rattle.sv_model.specs.declared.records.FileMeta.{FileMeta}
 use Rattle.sv_model.specs.declared.records.Memtable.{Memtable}
 use Rattle.sv_model.specs.declared.records.SuperVersion.{SuperVersion}
 use Rattle.sv_model.specs.declared.records.Top.{Top}

@@ -1,11 +1,10 @@
 -- Numbers by family that are the same.
-use Rattle.std.proofs.Common.{List, arith, max, ap, refl, sym, subst, ℕ, ◌∙◌, ◌≡◌, ◌≤◌}
+use Rattle.std.proofs.Common.{List, arith, max, ap, refl, sym, ℕ, ◌∙◌, ◌≡◌}
 use mathlib.Core.Logic.{dite}
 use native.Mathlib.Decide.{ℕ_discrete}
 use Rattle.sv_borrows.specs.Desks.{AreAlike}
 use Rattle.sv_model.specs.Lists.{at}
 use Rattle.sv_rule.specs.LockPlays.{raised}
-use Rattle.sv_rule.specs.Sums.{put}
 use Rattle.sv_rule.proofs.Sums.{at-put_else, at-put_same}
 
 -- what is raised to nothing is as it was

@@ -1,6 +1,5 @@
 -- A lane that has the DB lock cleans a SuperVersion up.
-use Rattle.std.proofs.Common.{List, Some, [], ap, arith, inr, inl, refl, subst, sym, ℕ, ◌++◌, ◌+◌, ◌*◌, ◌/◌, ◌<◌, ◌∙◌, ◌∷◌, ◌≡◌, ◌≤◌}
-use Rattle.std.specs.Prelude.{slice_get}
+use Rattle.std.proofs.Common.{List, Some, [], ap, arith, inr, inl, refl, subst, sym, ℕ, ◌+◌, ◌*◌, ◌<◌, ◌∙◌, ◌∷◌, ◌≡◌, ◌≤◌}
 use Rattle.sv_borrows.specs.Desks.{GoesOn, IsAtDesk, IsCleanedUp, MayGo, at_desk, due_at, owed_of}
 use Rattle.sv_borrows.proofs.Accounted.{accounted-still, went-free}
 use Rattle.sv_borrows.proofs.Alike.{alike-itself}
@@ -10,7 +9,6 @@ use Rattle.sv_model.specs.After.{After}
 use Rattle.sv_model.specs.Books.{Books}
 use Rattle.sv_model.specs.Lawful.{Lawful}
 use Rattle.sv_model.specs.Lists.{Every, In, at, same, total}
-use Rattle.sv_model.specs.Supers.{pack}
 use Rattle.sv_model.specs.Turns.{EndsSuper, Turns}
 use Rattle.sv_model.specs.declared.records.SuperVersion.{SuperVersion}
 use Rattle.sv_rule.specs.Blanks.{desk_of}

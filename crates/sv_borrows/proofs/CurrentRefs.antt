@@ -1,5 +1,5 @@
 -- The reference of a current, as the table's rule knows it.
-use Rattle.std.proofs.Common.{List, None, Option, Some, [], ap, arith, inl, inr, map, refl, slice_get, subst, suc, sym, true, zero, ℕ, ⊎_elim, ◌+◌, ◌*◌, ◌/◌, ◌<◌, ◌∙◌, ◌∷◌, ◌≡◌, ◌≤◌}
+use Rattle.std.proofs.Common.{List, None, Option, Some, [], ap, arith, inl, inr, map, refl, slice_get, subst, suc, sym, true, zero, ℕ, ⊎_elim, ◌<◌, ◌∙◌, ◌∷◌, ◌≡◌, ◌≤◌}
 use Rattle.sv_borrows.specs.Desks.{IsAtDesk}
 use Rattle.sv_borrows.specs.Grown.{Cleans}
 use Rattle.sv_borrows.specs.Parts.{body_of, frozen_at}
@@ -9,13 +9,10 @@ use Rattle.sv_model.specs.Cells.{Cell}
 use Rattle.sv_model.specs.Lawful.{Lawful}
 use Rattle.sv_model.specs.Lists.{Every}
 use Rattle.sv_model.specs.Registers.{entry}
-use Rattle.sv_model.specs.Supers.{current_of, current_serial, pack, pack_at, pack_of_serial}
+use Rattle.sv_model.specs.Supers.{current_of, current_serial, pack_at, pack_of_serial}
 use Rattle.sv_model.specs.declared.records.Memtable.{Memtable}
-use Rattle.sv_model.specs.declared.records.MemtableList.{MemtableList}
 use Rattle.sv_model.specs.declared.records.SuperVersion.{SuperVersion}
 use Rattle.sv_model.specs.declared.records.Top.{Top}
-use Rattle.sv_model.specs.declared.records.Version.{Version}
-use Rattle.sv_model.specs.declared.writes.Write.{Write}
 use Rattle.sv_model.proofs.Entries.{some}
 use Rattle.sv_model.proofs.Registers.{entry_le}
 use Rattle.sv_objects.specs.declared.bodies.Body.{Body}

@@ -1,12 +1,12 @@
 -- Knowledge that grows, and the books that are taken and given.
 use Rattle.std.proofs.Common.{List, [], ap, arith, length, refl, subst, suc, sym, zero, ℕ, ◌++◌, ◌+◌, ◌∙◌, ◌∷◌, ◌≡◌, ◌≤◌}
 use mathlib.Core.List.{append_assoc}
-use Rattle.std.specs.Prelude.{is_some, slice_get, true, Some}
+use Rattle.std.specs.Prelude.{is_some, slice_get, Some}
 use Rattle.sv_borrows.specs.Grown.{Givings, Grows, Paired, base_of}
 use Rattle.sv_model.specs.After.{After, Continues}
 use Rattle.sv_model.specs.Books.{Books}
 use Rattle.sv_model.specs.Journal.{by_lane}
-use Rattle.sv_model.specs.Lists.{Every, In, at}
+use Rattle.sv_model.specs.Lists.{Every, In}
 use Rattle.sv_model.specs.Numbers.{IsRegistered}
 use Rattle.sv_model.specs.Tasks.{Task}
 use Rattle.sv_model.specs.declared.records.FileStatus.TheVariants.{Gone}

@@ -1,22 +1,21 @@
 -- How a lane comes to have a borrow, and gives it back.
-use Rattle.std.proofs.Common.{Bool, List, None, Option, Some, false, true, [], ap, arith, inl, inr, refl, subst, sym, ℕ, ⊎_elim, ◌++◌, ◌+◌, ◌<◌, ◌∙◌, ◌∷◌, ◌≡◌, ◌≢◌, ◌≤◌, ◌⊎◌, cond, ◌==◌, eq-eqb}
+use Rattle.std.proofs.Common.{Bool, List, None, false, true, [], ap, arith, inl, inr, refl, subst, sym, ℕ, ◌++◌, ◌+◌, ◌∙◌, ◌∷◌, ◌≡◌, ◌≢◌, ◌≤◌, ◌⊎◌}
 use mathlib.Core.Logic.{dite}
 use native.Mathlib.Decide.{ℕ_discrete}
 use Rattle.sv_borrows.specs.Desks.{AreAlike}
-use Rattle.sv_borrows.specs.Grown.{Cleans, Givings, Grows}
-use Rattle.sv_borrows.specs.Lending.{Borrows, BorrowsNone, GivesBack, IsFree, IsLent, IsNotLent, MayLend, ended_view, fresh_view}
+use Rattle.sv_borrows.specs.Grown.{Cleans, Grows}
+use Rattle.sv_borrows.specs.Lending.{Borrows, BorrowsNone, GivesBack, IsLent, IsNotLent, MayLend, ended_view, fresh_view}
 use Rattle.sv_borrows.proofs.Lists.{without-first}
 use Rattle.sv_borrows.proofs.Growing.{Base, givings-none, givings-one, grows-on, in-last}
 use Rattle.sv_model.specs.Books.{Books}
-use Rattle.sv_model.specs.Lists.{In, at, times}
+use Rattle.sv_model.specs.Lists.{at, times}
 use Rattle.sv_model.specs.Tasks.{Task}
 use Rattle.sv_model.proofs.AfterLaws.{continues-itself}
 use Rattle.sv_rule.specs.Blanks.{no_locks}
 use Rattle.sv_rule.specs.ReferencePlays.{dropped, lowers}
 use Rattle.sv_rule.specs.SlotPlays.{IsShown}
-use Rattle.sv_rule.specs.Sums.{put, without}
 use Rattle.sv_rule.specs.Table.{slot_of}
-use Rattle.sv_rule.specs.Views.{Bodied, Known, LaneView, Locks, Load, SlotView, away, borrow}
+use Rattle.sv_rule.specs.Views.{Bodied, Known, LaneView, Locks, SlotView, away, borrow}
 use Rattle.sv_rule.proofs.Basics.{append_none}
 use Rattle.sv_rule.proofs.Sums.{at-put_else, at-put_same}
 use Rattle.sv_slots.specs.References.{IsDropped}

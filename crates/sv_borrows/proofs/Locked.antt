@@ -1,5 +1,5 @@
 -- What a lane does between a taking of the DB lock and its giving.
-use Rattle.std.proofs.Common.{Some, [], ap, refl, subst, sym, ℕ, ◌<◌, ◌∙◌, ◌≡◌, ◌≤◌}
+use Rattle.std.proofs.Common.{Some, [], ap, refl, subst, sym, ℕ, ◌∙◌, ◌≡◌, ◌≤◌}
 use Rattle.std.specs.Prelude.{Err, IfErr, IfOk, Ok, Result}
 use Rattle.sv_borrows.specs.Desks.{AreAlike, IsCleanedUp, MayGo, at_desk, owed_of}
 use Rattle.sv_borrows.specs.Lending.{IsFree, IsLent, IsNotLent, MayLend, cleaned_view}

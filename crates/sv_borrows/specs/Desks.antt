@@ -2,7 +2,7 @@
 use Rattle.std.specs.Prelude.{List, None, Some, [], false, ℕ, ◌∷◌, ◌≡◌, ◌≤◌}
 use Rattle.sv_borrows.specs.Grown.{Cleans}
 use Rattle.sv_model.specs.Books.{Books}
-use Rattle.sv_model.specs.Lists.{In, at}
+use Rattle.sv_model.specs.Lists.{at}
 use Rattle.sv_model.specs.Turns.{IsAccounted}
 use Rattle.sv_rule.specs.Blanks.{desk_of}
 use Rattle.sv_rule.specs.LockPlays.{without_cell}

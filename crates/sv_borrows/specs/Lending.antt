@@ -1,5 +1,5 @@
 -- How a lane comes to have a borrow of a family's current, and what it has when it gave it back.
-use Rattle.std.specs.Prelude.{List, [], false, length, ℕ, ◌++◌, ◌+◌, ◌<◌, ◌∷◌, ◌≡◌, ◌≢◌, ◌≤◌, ◌⊎◌}
+use Rattle.std.specs.Prelude.{List, [], false, length, ℕ, ◌+◌, ◌<◌, ◌≡◌, ◌≢◌, ◌≤◌, ◌⊎◌}
 use Rattle.sv_borrows.specs.Desks.{AreAlike, at_desk}
 use Rattle.sv_borrows.specs.Grown.{Cleans, Givings, Grows}
 use Rattle.sv_model.specs.Books.{Books}

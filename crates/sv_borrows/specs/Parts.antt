@@ -1,5 +1,5 @@
 -- What contracts see of the parts of a database.
-use Rattle.std.specs.Prelude.{ℕ, List, map}
+use Rattle.std.specs.Prelude.{ℕ, map}
 use Rattle.sv_model.specs.Cells.{Cell}
 use Rattle.sv_objects.specs.Shown.{shown}
 use Rattle.sv_objects.specs.declared.bodies.Body.{Body as Kept}

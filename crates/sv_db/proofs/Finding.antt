@@ -1,6 +1,6 @@
 -- What a read found, in all books that fit what the lane knows then.
-use Rattle.std.proofs.Common.{List, None, Option, Some, [], ap, arith, length, min, option_map, refl, subst, sym, take, true, ℕ, map, ◌++◌, ◌+◌, ◌-◌, ◌*◌, ◌/◌, ◌<◌, ◌∙◌, ◌∷◌, ◌≡◌, ◌≤◌}
-use Rattle.std.specs.Prelude.{Bool, Err, IsSomeAnd, Ok, Result, false, is_some, option_and_then}
+use Rattle.std.proofs.Common.{List, None, Option, Some, [], ap, arith, length, min, option_map, refl, subst, sym, take, true, ℕ, map, ◌++◌, ◌+◌, ◌-◌, ◌/◌, ◌<◌, ◌∙◌, ◌∷◌, ◌≡◌, ◌≤◌}
+use Rattle.std.specs.Prelude.{Err, IsSomeAnd, Ok, Result, false, is_some, option_and_then}
 use Rattle.sv_borrows.specs.Grown.{Grows}
 use Rattle.sv_borrows.specs.Parts.{frozen_at}
 use Rattle.sv_borrows.proofs.Growing.{Base, in-front}
@@ -10,21 +10,20 @@ use Rattle.sv_db.proofs.Texts.{reads-hold}
 use Rattle.sv_model.specs.Books.{Books}
 use Rattle.sv_model.specs.Cells.{Cell}
 use Rattle.sv_model.specs.Files.{Files}
-use Rattle.sv_model.specs.HeldFiles.{HoldsText}
 use Rattle.sv_model.specs.Journal.{look, newest_op, value_of}
 use Rattle.sv_model.specs.Lists.{Every, In}
-use Rattle.sv_model.specs.Reads.{LooksAt, Serves}
+use Rattle.sv_model.specs.Reads.{Serves}
 use Rattle.sv_model.specs.Registers.{entry}
 use Rattle.sv_model.specs.declared.refusals.Refusal.{Refusal}
 use Rattle.sv_model.specs.declared.refusals.Refusal.TheVariants as refusal
 use Rattle.sv_model.specs.declared.writes.Op.{Op}
 use Rattle.sv_model.proofs.AfterLaws.{continues-itself}
 use Rattle.sv_model.proofs.Entries.{in-right, some}
-use Rattle.sv_reads.specs.Files.{FilesAnswer, Looks, Serve}
+use Rattle.sv_reads.specs.Files.{FilesAnswer, Looks}
 use Rattle.sv_reads.specs.Parts.{FindsAfter, FindsBefore, chosen, rows_in}
 use Rattle.sv_reads.proofs.PartLooks.{finds_after}
 use Rattle.sv_rule.specs.Fits.{BodyFits, Fits, ReadFits, RowsFit}
-use Rattle.sv_rule.specs.Views.{Bodied, FileRead, FrozenAt, LaneView}
+use Rattle.sv_rule.specs.Views.{Bodied, LaneView}
 
 -- the frozen memtables of a body with their cells
 pub pairs-frozen : (l : List (ℕ × Cell)) → pairs_of (map frozen_at l) ≡ l

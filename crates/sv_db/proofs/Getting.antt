@@ -1,20 +1,16 @@
 -- A get: the current is borrowed, read, and given back.
-use Rattle.std.proofs.Common.{List, ap, arith, inl, inr, refl, subst, sym, ℕ, ⊎_elim, ◌%◌, ◌*◌, ◌++◌, ◌+◌, ◌/◌, ◌<◌, ◌∙◌, ◌≡◌, ◌≢◌, ◌≤◌}
+use Rattle.std.proofs.Common.{List, ap, arith, inl, inr, subst, sym, ℕ, ⊎_elim, ◌%◌, ◌++◌, ◌/◌, ◌<◌, ◌∙◌, ◌≡◌}
 use Rattle.std.specs.Prelude.{Bool, Option, is_some}
-use Rattle.sv_borrows.specs.Grown.{Cleans, Givings}
+use Rattle.sv_borrows.specs.Grown.{Cleans}
 use Rattle.sv_borrows.specs.Lending.{Borrows, GivesBack}
 use Rattle.sv_borrows.proofs.Growing.{Base, givings-on, grows-fits, grows-on}
 use Rattle.sv_db.specs.Getting.{Gets, Goes}
 use Rattle.sv_db.specs.Reading.{FindsIn, MayRead, Reads, StopsRead, is_told}
-use Rattle.sv_db.specs.declared.gets.Got.{Got}
-use Rattle.sv_model.specs.Books.{Books}
 use Rattle.sv_model.specs.Lists.{at}
 use Rattle.sv_model.specs.Reads.{LooksAt}
 use Rattle.sv_model.specs.declared.refusals.Refusal.{Refusal}
 use Rattle.sv_model.specs.declared.refusals.Refusal.TheVariants as refusal
-use Rattle.sv_rule.specs.Fits.{Fits}
-use Rattle.sv_rule.specs.Table.{slot_of}
-use Rattle.sv_rule.specs.Views.{Bodied, LaneView, SlotView, Slots, away}
+use Rattle.sv_rule.specs.Views.{Bodied, LaneView, Slots, away}
 use Rattle.sv_slots.specs.Seats.{Lends}
 
 pub may-read : (f : ℕ) → f < 16 → (x : Bodied) (v w : LaneView) → Borrows f x v w → MayRead x.body.descriptor.family x w

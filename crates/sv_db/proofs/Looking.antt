@@ -1,21 +1,18 @@
 -- What the parts of a SuperVersion say of a key, in books that fit what a lane read of them.
-use Rattle.std.proofs.Common.{List, None, Option, Some, [], ap, arith, inl, inr, length, refl, slice_get, subst, suc, sym, take, true, zero, ℕ, min, ◌++◌, ◌+◌, ◌-◌, ◌<◌, ◌∙◌, ◌∷◌, ◌≡◌, ◌≤◌, map}
-use Rattle.std.specs.Prelude.{IsSomeAnd, Ok, Result, is_some, option_and_then}
+use Rattle.std.proofs.Common.{List, Option, [], ap, arith, length, refl, subst, suc, sym, take, ℕ, min, ◌++◌, ◌+◌, ◌-◌, ◌∙◌, ◌∷◌, ◌≡◌, ◌≤◌, map}
 use Rattle.std.proofs.lemmas.List.{length-append, length-map}
 use Rattle.sv_model.specs.After.{Continues}
-use Rattle.sv_model.specs.Books.{Books, end_of}
+use Rattle.sv_model.specs.Books.{Books}
 use Rattle.sv_model.specs.Cells.{Cell}
-use Rattle.sv_model.specs.Described.{BearsFrom, Describes, FilesStand, IsFileOf}
+use Rattle.sv_model.specs.Described.{BearsFrom, Describes, FilesStand}
 use Rattle.sv_model.specs.Files.{Files}
 use Rattle.sv_model.specs.Flat.{range_of}
 use Rattle.sv_model.specs.HeldFiles.{HoldsText}
-use Rattle.sv_model.specs.Journal.{borne_by, look, newest_op, row_of, rows_of, value_of}
+use Rattle.sv_model.specs.Journal.{borne_by, look, row_of, rows_of}
 use Rattle.sv_model.specs.Lawful.{Lawful}
 use Rattle.sv_model.specs.Lists.{Every}
-use Rattle.sv_model.specs.Reads.{LooksAt, Serves}
-use Rattle.sv_model.specs.Registers.{EachEntry, entry}
+use Rattle.sv_model.specs.Reads.{Serves}
 use Rattle.sv_model.specs.declared.records.FileMeta.{FileMeta}
-use Rattle.sv_model.specs.declared.records.SuperVersion.{SuperVersion}
 use Rattle.sv_model.specs.declared.writes.Op.{Op}
 use Rattle.sv_model.specs.declared.writes.Row.{Row}
 use Rattle.sv_model.specs.declared.writes.Write.{Write}
@@ -24,7 +21,7 @@ use Rattle.sv_reads.specs.Bodies.{HaveRows}
 use Rattle.sv_reads.specs.Files.{Serve}
 use Rattle.sv_reads.specs.Parts.{FindsAfter, FindsBefore, chosen, rows_in}
 use Rattle.sv_reads.proofs.BodyParts.{borne_range, clear_after, frozen_range, parts_look}
-use Rattle.sv_rule.specs.Fits.{BodyFits, IsFrozenAt, cell_of}
+use Rattle.sv_rule.specs.Fits.{BodyFits, IsFrozenAt}
 use Rattle.sv_rule.specs.Views.{Bodied, FrozenAt}
 
 -- the frozen memtables of a body, with their cells

@@ -1,5 +1,5 @@
 -- What the takings and givings of a read make of a view.
-use Rattle.std.proofs.Common.{List, None, Option, Some, [], ap, arith, option_map, inl, inr, length, max, min, nat_le, refl, slice_get, subst, suc, sym, true, zero, ℕ, ⊎_elim, ◌++◌, ◌+◌, ◌<◌, ◌∙◌, ◌∷◌, ◌≡◌, ◌≤◌, ◌⊎◌}
+use Rattle.std.proofs.Common.{List, None, Option, Some, [], ap, arith, option_map, inl, inr, length, max, min, nat_le, refl, subst, suc, sym, zero, ℕ, ◌++◌, ◌+◌, ◌∙◌, ◌∷◌, ◌≡◌, ◌≤◌, ◌⊎◌}
 use Rattle.std.proofs.lemmas.Bool.{cases_Bool, leb-false, leb-true}
 use Rattle.std.specs.List.{list_any}
 use mathlib.Core.Logic.{dite}
@@ -8,22 +8,21 @@ use Rattle.sv_borrows.specs.Lending.{IsFree}
 use Rattle.sv_borrows.proofs.Growing.{grows-on, in-last}
 use Rattle.sv_db.specs.Reading.{MayRead, MetAt, Reads, reads_in}
 use Rattle.sv_model.specs.Cells.{Cell}
-use Rattle.sv_model.specs.Files.{Files, file_of}
+use Rattle.sv_model.specs.Files.{Files}
 use Rattle.sv_model.specs.Journal.{value_of}
 use Rattle.sv_model.specs.Lists.{Every, In, at}
 use Rattle.sv_model.specs.declared.limits.TheConstants.{MAX_WRITES}
 use Rattle.sv_model.specs.declared.writes.Op.{Op}
 use Rattle.sv_reads.specs.Parts.{FindsAfter}
 use Rattle.sv_rule.specs.Table.{slot_of}
-use Rattle.sv_model.specs.Tasks.{Mark, Output, Task}
+use Rattle.sv_model.specs.Tasks.{Task}
 use Rattle.sv_model.specs.declared.records.FileMeta.{FileMeta}
 use Rattle.sv_model.proofs.AfterLaws.{continues-itself}
 use Rattle.sv_model.proofs.Entries.{get_none, some}
 use Rattle.sv_rule.proofs.Sums.{at-put_else, at-put_same}
-use Rattle.sv_rule.specs.Blanks.{no_locks}
 use Rattle.sv_rule.specs.Held.{Told}
 use Rattle.sv_rule.specs.LockPlays.{DirChange, FindsAsBody, IsOwnRead, MarksTask, MayGiveCell, MayGiveDir, closes, gave_cell, gave_dir, raised, read_of, takings, took_cell, took_dir}
-use Rattle.sv_rule.specs.Views.{Bodied, Desk, Disk, FileRead, LaneView, Locks, RowsRead, borrow}
+use Rattle.sv_rule.specs.Views.{Bodied, Disk, FileRead, LaneView, Locks, RowsRead, borrow}
 
 -- ---- what is raised
 

@@ -1,19 +1,18 @@
 -- What a lane read of files is their text, in books that fit.
-use Rattle.std.proofs.Common.{List, None, Option, Some, [], ap, map, refl, slice_get, subst, suc, sym, true, zero, ℕ, ◌∙◌, ◌∷◌, ◌≡◌}
-use Rattle.std.specs.Prelude.{IsSomeAnd, is_some}
+use Rattle.std.proofs.Common.{List, Some, [], ap, refl, subst, suc, sym, zero, ℕ, ◌∙◌, ◌∷◌, ◌≡◌}
+use Rattle.std.specs.Prelude.{IsSomeAnd}
 use Rattle.sv_db.specs.Reading.{reads_in}
 use Rattle.sv_model.specs.Books.{Books}
 use Rattle.sv_model.specs.Described.{IsFileOf}
 use Rattle.sv_model.specs.Files.{Files, file_of}
 use Rattle.sv_model.specs.HeldFiles.{HoldsText, IsFileText}
 use Rattle.sv_model.specs.Lawful.{Lawful}
-use Rattle.sv_model.specs.Lists.{Every, In}
+use Rattle.sv_model.specs.Lists.{Every}
 use Rattle.sv_model.specs.declared.records.FileMeta.{FileMeta}
 use Rattle.sv_model.specs.declared.records.RegisteredFile.{RegisteredFile}
 use Rattle.sv_model.proofs.Entries.{get_none, some}
 use Rattle.sv_model.proofs.Metas.{one-meta}
 use Rattle.sv_rule.specs.Fits.{ReadFits}
-use Rattle.sv_rule.specs.Views.{FileRead}
 use Rattle.sv_rule.proofs.Statuses.{once-same}
 
 module _ (b : Books) (lawful : Lawful b) where

@@ -1,10 +1,9 @@
 -- What a get answers, and what it leaves.
-use Rattle.std.specs.Prelude.{List, Option, ℕ, ◌*◌, ◌+◌, ◌<◌, ◌≡◌, ◌≢◌, ◌≤◌, ◌⊎◌}
+use Rattle.std.specs.Prelude.{List, ℕ, ◌*◌, ◌+◌, ◌<◌, ◌≡◌, ◌≢◌, ◌≤◌, ◌⊎◌}
 use Rattle.sv_borrows.specs.Grown.{Cleans, Givings, Grows}
 use Rattle.sv_db.specs.Reading.{FindsAt}
 use Rattle.sv_db.specs.declared.gets.Got.{Got}
 use Rattle.sv_model.specs.Lists.{at}
-use Rattle.sv_rule.specs.Blanks.{no_locks}
 use Rattle.sv_rule.specs.Table.{slot_of}
 use Rattle.sv_rule.specs.Views.{LaneView, away}
 

@@ -1,9 +1,7 @@
-use Rattle.std.proofs.Common.{ap, subst, sym, ◌∙◌, ◌≡◌}
+use Rattle.std.proofs.Common.{subst}
 use Rattle.sv_borrows.specs.Parts.{body_of}
 use Rattle.sv_borrows.proofs.Lending.{by-hit, by-lent, by-none, is-missed, miss-lends, stale-missed}
 use Rattle.sv_borrows.proofs.Locked.{if-err, if-ok}
-use Rattle.sv_rule.specs.Blanks.{no_locks}
-use Rattle.sv_rule.specs.Views.{LaneView}
 use Rattle.sv_slots.specs.Borrows.{IsMiss}
 use Rattle.sv_slots.specs.Seats.{bodied}
 use Rattle.sv_borrows.proofs.lends.lend.Goals as goal

@@ -1,4 +1,4 @@
-use Rattle.std.proofs.Common.{ap, arith, refl, subst, sym, ◌∙◌, ◌<◌, ◌≡◌, ◌≤◌, ℕ}
+use Rattle.std.proofs.Common.{ap, arith, subst, sym, ◌∙◌, ◌<◌, ◌≡◌, ℕ}
 use Rattle.sv_borrows.specs.Parts.{body_of}
 use Rattle.sv_borrows.proofs.CurrentRefs.{lend-held, lend-lock, lend-shown}
 use Rattle.sv_model.specs.Lists.{same, total}

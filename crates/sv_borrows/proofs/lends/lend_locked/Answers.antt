@@ -1,5 +1,3 @@
-use Rattle.std.proofs.Common.{ap, ◌∙◌, ◌≡◌}
-use Rattle.sv_borrows.specs.Lending.{IsLent, IsNotLent}
 use Rattle.sv_borrows.specs.Parts.{body_of}
 use Rattle.sv_borrows.proofs.Locked.{either, gives-cleaned, gives-lent, if-err, if-ok, is-lent, is-not-lent, lends-current, taken-owes}
 use Rattle.sv_rule.specs.LockPlays.{MayGiveDb}

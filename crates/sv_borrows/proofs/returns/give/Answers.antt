@@ -1,4 +1,4 @@
-use Rattle.std.proofs.Common.{ap, false, refl, subst, sym, true, ◌∙◌, ◌≡◌}
+use Rattle.std.proofs.Common.{ap, false, subst, true, ◌∙◌}
 use Rattle.sv_borrows.specs.Parts.{body_of}
 use Rattle.sv_borrows.proofs.Lending.{gives-kept, gives-last, gives-more}
 use Rattle.sv_rule.specs.ReferencePlays.{dropped}

@@ -1,4 +1,4 @@
-use Rattle.std.proofs.Common.{ap, arith, min, refl, subst, sym, ℕ, ◌++◌, ◌+◌, ◌<◌, ◌∙◌, ◌≡◌, ◌≤◌}
+use Rattle.std.proofs.Common.{ap, arith, min, refl, subst, sym, ℕ, ◌++◌, ◌+◌, ◌∙◌, ◌≤◌}
 use Rattle.std.specs.Prelude.{is_some}
 use Rattle.sv_borrows.specs.Parts.{body_of}
 use Rattle.sv_db.specs.Reading.{reads_in}

@@ -1,4 +1,4 @@
-use Rattle.std.proofs.Common.{ap, refl, subst, sym, ◌/◌, ◌<◌, ◌∙◌, ◌≡◌}
+use Rattle.std.proofs.Common.{ap, subst, sym, ◌/◌, ◌<◌, ◌∙◌}
 use Rattle.sv_borrows.specs.Lending.{GivesBack}
 use Rattle.sv_borrows.specs.Parts.{body_of}
 use Rattle.sv_db.specs.Reading.{FindsIn, MayRead}

@@ -1,4 +1,4 @@
-use Rattle.std.proofs.Common.{None, Option, Some, ap, refl, subst, sym, ◌∙◌, ◌≡◌}
+use Rattle.std.proofs.Common.{Option, ap, subst, sym}
 use Rattle.std.specs.Option.{option_copied}
 use Rattle.sv_borrows.specs.Parts.{body_of}
 use Rattle.sv_db.specs.Reading.{FindsIn}
