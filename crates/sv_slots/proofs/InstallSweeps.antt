@@ -13,7 +13,7 @@ use Rattle.sv_rule.specs.SlotPlays.{reached}
 use Rattle.sv_rule.specs.Sums.{without}
 use Rattle.sv_rule.specs.SweepPlays.{Sweeps, works}
 use Rattle.sv_rule.specs.Views.{Bodied, Desk, LaneView, Work, idle, sweeping}
-use Rattle.sv_slots.specs.Installs.{installed, retired, swept_on}
+use Rattle.sv_slots.specs.Installs.{IsPassed, installed, passed_by, retired, swept_on, work_at}
 use Rattle.sv_slots.specs.References.{IsMore, NotLast}
 use Rattle.sv_slots.specs.declared.refs.Sub.{Sub}
 
@@ -50,10 +50,6 @@ between false y w e = refl
 between true false w e = refl
 between true true w e = absurd (true_not e)
 
--- once l lanes are passed, and what was taken is dropped
-abbrev pub work_at : ℕ → ℕ → ℕ → ℕ → Work
-work_at lanes f r l = cond (r == 0) (cond (l == lanes) idle (sweeping f r l false 0)) (sweeping f r l false 0)
-
 pub work-under : (lanes f r l : ℕ) → l < lanes → work_at lanes f r l ≡ sweeping f r l false 0
 work-under lanes f r l h = between (r == 0) (l == lanes) (sweeping f r l false 0)
     (ne_eqb l lanes (λ e. omega (arith, e, h)))
@@ -65,18 +61,11 @@ work-old lanes f r l big = ap (λ (b : Bool). cond b (cond (l == lanes) idle (sw
 -- ---- the slots are passed, from the view s on
 
 module _ (f r : ℕ) (s : LaneView) where
-  -- so many lanes are passed, and these are the bodies of what the sweep took
-  abbrev pub passed_by : ℕ → List Bodied → LaneView
-  passed_by l more = learnt more (works (desk_of s) (work_at s.seat.lanes f r l) s.hand s)
-
-  abbrev pub IsPassed : ℕ → LaneView → Type 0
-  IsPassed l v = (more : List Bodied) × (v ≡ passed_by l more)
-
   abbrev desk_in : Option Desk → Desk
   desk_in o = desk_of (record s { locks = record s.locks { db = o } })
 
   pub none-passed : (d : Desk) → s.locks.db ≡ Some d → d.work ≡ sweeping f r 0 false 0 → 0 < s.seat.lanes
-      → IsPassed 0 s
+      → IsPassed f r s 0 s
   none-passed d has is some =
       let at : s.locks.db ≡ Some (record { books = d.books; work = work_at s.seat.lanes f r 0; due = d.due }) = has
       ∙ ap (λ (w : Work). Some (record { books = d.books; work = w; due = d.due }))
@@ -91,7 +80,7 @@ module _ (f r : ℕ) (s : LaneView) where
         },
       )
 
-  module _ (l : ℕ) (v : LaneView) (at : IsPassed l v) (more_lanes : l < s.seat.lanes) where
+  module _ (l : ℕ) (v : LaneView) (at : IsPassed f r s l v) (more_lanes : l < s.seat.lanes) where
     abbrev swept : LaneView
     swept = learnt at.0 (works (desk_of s) (sweeping f r l false 0) s.hand s)
 
@@ -106,7 +95,7 @@ module _ (f r : ℕ) (s : LaneView) where
     same-hand = ap (λ (z : LaneView). z.hand) is_swept
 
     -- the slot of lane l cached nothing
-    pub passes-none : (w : LaneView) → w ≡ swept_on f l (taken_in (desk_of v).work) v.hand v → IsPassed (l + 1) w
+    pub passes-none : (w : LaneView) → w ≡ swept_on f l (taken_in (desk_of v).work) v.hand v → IsPassed f r s (l + 1) w
     passes-none w e = (
       at.0,
       e ∙ ap (λ (z : LaneView). swept_on f l (taken_in (desk_of z).work) z.hand z) is_swept,
@@ -146,7 +135,7 @@ module _ (f r : ℕ) (s : LaneView) where
       abbrev goes : Work → Option Desk
       goes y = Some (record { books = (desk_of s).books; work = y; due = (desk_of s).due })
 
-      pub passes-some : (u : LaneView) → u ≡ dropped p false w → IsPassed (l + 1) u
+      pub passes-some : (u : LaneView) → u ≡ dropped p false w → IsPassed f r s (l + 1) u
       passes-some u e = (
         at.0 ++ x ∷ [],
         e
@@ -164,7 +153,7 @@ module _ (f r : ℕ) (s : LaneView) where
 
   -- ---- all slots are passed
 
-  module _ (v : LaneView) (at : IsPassed s.seat.lanes v) (big : 256 ≤ r) (hand : List ℕ) (has : s.hand ≡ r ∷ hand) where
+  module _ (v : LaneView) (at : IsPassed f r s s.seat.lanes v) (big : 256 ≤ r) (hand : List ℕ) (has : s.hand ≡ r ∷ hand) where
     abbrev last : LaneView
     last = learnt at.0 (works (desk_of s) (sweeping f r s.seat.lanes false 0) (r ∷ hand) s)
 
