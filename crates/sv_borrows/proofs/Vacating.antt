@@ -24,7 +24,7 @@ module _ (b : Books) (due : List ℕ) (v : LaneView) (at_d : IsAtDesk b due v) w
   is_desk = desk_is_of v desk at_d.db
 
   -- with the DB lock a taking of a cell tells nothing of its rows, and is not counted
-  took-locked : (c : ℕ) (x : Option Cell) → took_cell c x v ≡ record v {
+  pub took-locked : (c : ℕ) (x : Option Cell) → took_cell c x v ≡ record v {
     locks = record v.locks { cell = Some (record { number = c; found = x }) };
   }
   took-locked c x =
