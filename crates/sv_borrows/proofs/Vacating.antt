@@ -17,14 +17,14 @@ use Rattle.sv_slots.proofs.Laws.{desk_is_of}
 use Rattle.sv_slots.proofs.Unchanged.{still-turns}
 
 module _ (b : Books) (due : List ℕ) (v : LaneView) (at_d : IsAtDesk b due v) where
-  abbrev desk : Desk
+  abbrev pub desk : Desk
   desk = record { books = b; work = idle; due = due }
 
   pub is_desk : desk_of v ≡ desk
   is_desk = desk_is_of v desk at_d.db
 
   -- with the DB lock a taking of a cell tells nothing of its rows, and is not counted
-  took-locked : (c : ℕ) (x : Option Cell) → took_cell c x v ≡ record v {
+  pub took-locked : (c : ℕ) (x : Option Cell) → took_cell c x v ≡ record v {
     locks = record v.locks { cell = Some (record { number = c; found = x }) };
   }
   took-locked c x =
