@@ -1,4 +1,4 @@
--- What a lane has of its own after a cleanup is the books' still.
+-- What a lane has of its own after a cleanup, or a write, is the books' still.
 use Rattle.std.proofs.Common.{List, Some, [], ap, arith, subst, sym, refl, ℕ, zero, suc, ◌∷◌, ◌∙◌, ◌≡◌, ◌≤◌, ◌<◌, ◌/◌, ◌%◌, ◌+◌, ◌*◌, ◌≢◌}
 use Rattle.std.specs.Prelude.{slice_get, length}
 use Rattle.sv_borrows.specs.Desks.{MayGo, owed_of}
@@ -14,6 +14,7 @@ use Rattle.sv_model.specs.Turns.{IsAccounted, Turns}
 use Rattle.sv_model.specs.declared.records.Memtable.{Memtable}
 use Rattle.sv_model.specs.declared.records.SuperVersion.{SuperVersion}
 use Rattle.sv_model.specs.declared.records.Top.{Top}
+use Rattle.sv_model.specs.declared.writes.Write.{Write}
 use Rattle.sv_model.proofs.Entries.{get_none, in-left, some}
 use Rattle.sv_rule.specs.Held.{Free}
 use Rattle.sv_rule.specs.LockPlays.{IsTold}
@@ -22,7 +23,8 @@ use Rattle.sv_slots.specs.declared.refs.Sub.{Sub}
 use Rattle.sv_slots.specs.declared.refs.Sub.TheVariants.{Last, More}
 use Rattle.sv_state.specs.Gone.{IsFree}
 
-pub accounted-still : (l : ℕ) (a b : Books) (t : Task) → IsAccounted l a t → Turns l a t b t [] → IsAccounted l b t
+pub accounted-still : {more : List Write} (l : ℕ) (a b : Books) (t : Task) → IsAccounted l a t → Turns l a t b t more
+    → IsAccounted l b t
 accounted-still l a b t c h = record {
   lawful = h.counts.lawful;
   quiet = h.counts.quiet;

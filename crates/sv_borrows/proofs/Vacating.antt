@@ -17,7 +17,7 @@ use Rattle.sv_slots.proofs.Laws.{desk_is_of}
 use Rattle.sv_slots.proofs.Unchanged.{still-turns}
 
 module _ (b : Books) (due : List ℕ) (v : LaneView) (at_d : IsAtDesk b due v) where
-  abbrev desk : Desk
+  abbrev pub desk : Desk
   desk = record { books = b; work = idle; due = due }
 
   pub is_desk : desk_of v ≡ desk
