@@ -1,0 +1,2 @@
+pub mod ActiveCells
+pub mod Appending
