@@ -28,7 +28,8 @@ module _ (b : Books) (lawful : Lawful b) (f c : ℕ) (h : HasActive b f c) where
 
   pub active-live : h.cell_is.it.live ≡ true
   active-live =
-      let l = (lawful.memtables h.it.descriptor.active).1 (inl (h.serial, h.it, h.is_open.current.has, record { live = super-live; is = refl })) in
+      let l = (lawful.memtables h.it.descriptor.active).1
+      (inl (h.serial, h.it, h.is_open.current.has, record { live = super-live; is = refl })) in
       ap (λ (m : Memtable). m.live) (some (sym h.cell_is.at ∙ l.at)) ∙ l.live
 
   -- it is in the cell
@@ -52,7 +53,7 @@ module _ (b : Books) (lawful : Lawful b) (f c : ℕ) (h : HasActive b f c) where
       (lawful.cells h.it.descriptor.active m.it m.at active-live).1 o.id o.it o.at o.live (o.is ∙ sym m.is)
 
   -- the cell has its rows
-  pub active-says : (x : Option Cell) → CellSays b.memtables b.journal 0 0 c x
+  active-says : (x : Option Cell) → CellSays b.memtables b.journal 0 0 c x
       → x ≡ Some (cell_of b.journal h.it.descriptor.active)
   active-says x (has_rows o e) = e ∙ ap (λ n. Some (cell_of b.journal n)) (one-active o)
   active-says x (fills_up o e le) = absurd (omega (arith, le))
@@ -69,18 +70,19 @@ module _ (b : Books) (v : LaneView) (at_d : IsAtDesk b [] v) where
   module _ (f c : ℕ) (h : HasActive b f c) (x : Option Cell) (u : LaneView) (took : u ≡ took_cell c x v) where
     -- the cell may be given as it was found
     pub may-give-same : x ≡ Some (cell_of b.journal h.it.descriptor.active) → MayWriteCell u c b u.known.task [] x 0 0
-    may-give-same is = subst (λ (z : LaneView). MayWriteCell z c b z.known.task [] x 0 0) (sym (took ∙ took-locked b [] v at_d c x)) (record {
-      alive = at_d.alive;
-      desk = desk b [] v at_d;
-      has = at_d.db;
-      found = x;
-      cell = refl;
-      turns = still-turns v.known.lane b v.known.task at_d.own;
-      stands = stands-same b;
-      more_is = inl refl;
-      says = has_rows (active-occupies b at_d.own.lawful f c h) is;
-      seen = omega arith;
-    })
+    may-give-same is = subst (λ (z : LaneView). MayWriteCell z c b z.known.task [] x 0 0)
+        (sym (took ∙ took-locked b [] v at_d c x)) (record {
+          alive = at_d.alive;
+          desk = desk b [] v at_d;
+          has = at_d.db;
+          found = x;
+          cell = refl;
+          turns = still-turns v.known.lane b v.known.task at_d.own;
+          stands = stands-same b;
+          more_is = inl refl;
+          says = has_rows (active-occupies b at_d.own.lawful f c h) is;
+          seen = omega arith;
+        })
 
   module _ (c : ℕ) (x : Option Cell) (u : LaneView) (took : u ≡ took_cell c x v) where
     -- and the lane goes on

@@ -1,5 +1,5 @@
 -- A lane that has the DB lock appends a row to a family's active memtable.
-use Rattle.std.proofs.Common.{List, Option, Some, [], ap, arith, drop, inr, length, refl, subst, sym, ℕ, ◌++◌, ◌∙◌, ◌∷◌, ◌≡◌, ◌<◌}
+use Rattle.std.proofs.Common.{List, Option, Some, [], ap, arith, drop, inr, length, refl, subst, sym, ℕ, ◌++◌, ◌<◌, ◌∙◌, ◌∷◌, ◌≡◌}
 use Rattle.std.proofs.lemmas.List.{length-map, map-append}
 use Rattle.sv_borrows.specs.Desks.{IsAtDesk}
 use Rattle.sv_borrows.proofs.Accounted.{accounted-still}
@@ -46,14 +46,15 @@ module _ (s : StateSeen) (lane f c : ℕ) (can : CanAppend s lane f c) where
   room-for =
       omega (arith, length-map (borne_by can.can.it.descriptor.active s.books.journal) row_of, can.can.few_rows)
 
-  -- the write of the state is the lane's
-  pub is-written : (m : StateSeen) → m ≡ s → (b : Books) (row : Row) (l : ℕ) → lane ≡ l
-      → ((k : CanWrite m lane f) → IsWritten m.books b f (write_of lane f k.it.descriptor.active row))
+  -- the state accepts a write of the lane
+  abbrev Accepts : Books → Row → StateSeen → Type 0
+  Accepts b row z = (k : CanWrite z lane f) → IsWritten z.books b f (write_of lane f k.it.descriptor.active row)
+
+  pub is-written : (m : StateSeen) → m ≡ s → (b : Books) (row : Row) (l : ℕ) → lane ≡ l → Accepts b row m
       → IsWritten s.books b f (write_of l f can.can.it.descriptor.active row)
   is-written m same b row l lane_is h =
       subst (λ n. IsWritten s.books b f (write_of n f can.can.it.descriptor.active row)) lane_is
-      (subst (λ (z : StateSeen). (k : CanWrite z lane f) → IsWritten z.books b f (write_of lane f k.it.descriptor.active row))
-      same h can.can)
+      (subst (Accepts b row) same h can.can)
 
 -- ---- the write
 
@@ -112,13 +113,15 @@ module _ (a b : Books) (v : LaneView) (at_d : IsAtDesk a [] v) (f c : ℕ) (h : 
 
       pub may-append-more : (y : Option Cell) → y ≡ Some (with_row (cell_of a.journal h.it.descriptor.active) row)
           → MayWriteCell u c b u.known.task (written_since (desk_of u).books b) y f n
-      may-append-more y is = subst (λ (l : List Write). MayWriteCell u c b u.known.task l y f n) (sym more-is) (may-append y is)
+      may-append-more y is =
+          subst (λ (l : List Write). MayWriteCell u c b u.known.task l y f n) (sym more-is) (may-append y is)
 
       pub appends : (w : LaneView)
           → w ≡ wrote_cell (desk_of u) c b u.known.task (written_since (desk_of u).books b) f n u
           → Appends a b f row n v w
       appends w wrote =
-          let has : u ≡ record v { locks = record v.locks { cell = Some (record { number = c; found = x }) } } = took ∙ took-locked a [] v at_d c x in
+          let has : u ≡ record v { locks = record v.locks { cell = Some (record { number = c; found = x }) } }
+          = took ∙ took-locked a [] v at_d c x in
           let d : desk_of u ≡ desk a [] v at_d = ap desk_of has ∙ is_desk a [] v at_d in record {
             mem = h.it.descriptor.active;
             written = written;
