@@ -2,13 +2,18 @@
 use Rattle.std.proofs.Common.{ap, length, subst, sym, ℕ, ◌<◌, ◌∙◌, ◌≤◌}
 use mathlib.Core.Logic.{dite}
 use native.Mathlib.Decide.{ℕ_discrete}
+use Rattle.atomic_table.specs.Seated.{TableId}
 use Rattle.sv_borrows.specs.Lending.{IsAtRest, MayLend}
 use Rattle.sv_borrows.proofs.Growing.{Base}
 use Rattle.sv_db.specs.Getting.{Goes}
+use Rattle.sv_db.specs.Opening.{IsReady}
 use Rattle.sv_model.specs.Lists.{times}
 use Rattle.sv_model.specs.Tasks.{Task}
 use Rattle.sv_rule.specs.Table.{slot_of}
 use Rattle.sv_rule.specs.Views.{LaneView, Seat}
+use Rattle.sv_rule.specs.declared.parts.Parts.{Ghosts}
+use Rattle.sv_slots.specs.Known.{IsSameSeat, view_of}
+use Rattle.sv_slots.specs.declared.table.LaneSeat.{LaneSeat}
 
 module _ (f : ℕ) (v w : LaneView) (goes : Goes f v w) where
   pub still-rests : IsAtRest v → IsAtRest w
@@ -31,3 +36,11 @@ module _ (f : ℕ) (v w : LaneView) (goes : Goes f v w) where
     subst (λ (t : Task). 1 ≤ times g t.handles) (sym (ap (λ (z : Base). z.2) goes.grows.base)) lend.1,
     (still-rests rest).away_all g,
   )
+
+module _ {P S D C B : Type 0} {g : Ghosts P S D C B} (f : ℕ) (t : TableId) (old new : LaneSeat P S D C B g) where
+  pub still-ready : (h : ℕ) → IsSameSeat old new → Goes f (view_of old) (view_of new) → IsReady h t old → IsReady h t new
+  still-ready h same goes ready = record {
+    table = same.0 ∙ ready.table;
+    rest = still-rests f (view_of old) (view_of new) goes ready.rest;
+    lend = still-lends f (view_of old) (view_of new) goes h ready.rest ready.lend;
+  }
