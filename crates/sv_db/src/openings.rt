@@ -45,10 +45,10 @@ fn first_cells(alloc: Global) -> Result<Vec<Slot>, OutOfMemory>
     Ok(cells)
 }
 
-/// Opens a database that is new: its one family is `default`, which has no writes and no files, and of which each lane
-/// has a handle. There are so many lanes, from 1 to 32, and the seats are theirs, from lane 0 on. `next` is the number
-/// of the first file that is made, from 1; files that the directory has already stay as they are. Where there is no
-/// memory for it, the directory comes back as it was.
+/// Opens a database that is new: its one family is `default`, without writes and files, and each lane has a handle of
+/// it. It has `lanes` lanes, 1 to 32; the seats are theirs, that of lane 0 first. `next` is the number of the first file
+/// that it makes, from 1; files that the directory has already stay as they are, and the database knows none of them.
+/// Where there is no memory the directory comes back as it was.
 pub fn open<D: Dir + Drop>(
     alloc: Global,
     lanes: u8,
