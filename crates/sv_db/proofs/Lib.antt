@@ -3,3 +3,5 @@ pub mod ReadViews
 pub mod Texts
 pub mod Finding
 pub mod Getting
+pub mod OpenedBooks
+pub mod AtRest

@@ -4,6 +4,8 @@
 mod cells;
 mod files;
 mod gets;
+mod openings;
 mod reads;
 
 pub use gets::{Got, get_of};
+pub use openings::open;
