@@ -216,23 +216,32 @@ fn opens_with_named_numbers(rt: HostRuntime) {
     assert_eq!(rt; capture(&mut book, 15), Ok(FileNumber(10)));
 }
 
-// Every second number stays Live, the others go at once: what is found each time is that one number.
+// A captured number that is Live goes at once: it is all that is found.
+fn goes_at_once(book: &mut FileBook, number: u64) -> bool {
+    let found = retire(book, number) && gave(find(book), &[number]);
+    let gone = ungrab(book, number, true);
+    end_job(book);
+    found && gone && gave(book.ready(), &[])
+}
+
+// As many numbers as may be captured. Every second one goes at once, the others stay Live until all are captured; then
+// they go too, but for those above a million.
 #[test]
 fn finds_at_a_flat_cost(rt: HostRuntime) {
     let mut book = FileBook::new(rt.alloc(), FileNumber(1));
     for number in 1..=MAX_CAPTURED as u64 {
         assert_eq!(rt; capture(&mut book, 0), Ok(FileNumber(number)));
-        assert!(rt; settle(&mut book, number, Settled::Live));
         assert!(rt; gave(book.ready(), &[]));
-        if number % 2 == 1 {
-            assert!(rt; retire(&mut book, number));
-            assert!(rt; gave(find(&mut book), &[number]));
-            assert!(rt; ungrab(&mut book, number, true));
-            end_job(&mut book);
-        }
+        assert!(rt; settle(&mut book, number, Settled::Live));
+        assert!(rt; number % 2 == 0 || goes_at_once(&mut book, number));
     }
     assert_eq!(rt; capture(&mut book, 0), Err(Refusal::RegisterFull));
     assert_eq!(rt; (book.made(), book.gone()), (1_048_576, 524_288));
+    for half in 1..=500_000 {
+        assert!(rt; goes_at_once(&mut book, 2 * half));
+    }
+    assert_eq!(rt; (book.made(), book.gone()), (1_048_576, 1_024_288));
+    assert!(rt; gave(find(&mut book), &[]));
 }
 
 // A hold keeps very many numbers Obsolete, which are then handed out one by one.
