@@ -1,7 +1,6 @@
 -- A put while its lane has the DB lock.
-use Rattle.std.proofs.Common.{Err, List, None, Ok, Result, Some, [], ap, arith, refl, subst, sym, ℕ, ◌<◌, ◌∙◌, ◌∷◌, ◌≡◌, ◌≤◌}
-use Rattle.std.specs.Prelude.{IfErr, IfOk, OnErr, length}
-use Rattle.sv_borrows.proofs.CurrentRefs.{has-current}
+use Rattle.std.proofs.Common.{Err, List, None, Ok, Result, [], ap, refl, subst, sym, ℕ, ◌∙◌, ◌∷◌, ◌≡◌}
+use Rattle.std.specs.Prelude.{IfErr, IfOk, OnErr}
 use Rattle.sv_borrows.specs.Desks.{GoesOn, IsAtDesk}
 use Rattle.sv_cells.specs.Calls.{memtables_refusal}
 use Rattle.sv_installs.proofs.Changed.{changes-none, changes-through}
@@ -22,7 +21,6 @@ use Rattle.sv_state.specs.Planning.{IsPlanOf, Planned, write_refusal}
 use Rattle.sv_state.specs.Seen.{StateSeen}
 use Rattle.sv_state.specs.declared.planning.Plan.{Plan}
 use Rattle.sv_state.specs.declared.planning.Plan.TheVariants.{Add, Switch}
-use Rattle.sv_state.specs.Writing.{write_of}
 
 -- nothing changed
 pub changes-same : (a b : Books) (v : LaneView) → IsAtDesk a [] v → b ≡ a → Changes a b v v

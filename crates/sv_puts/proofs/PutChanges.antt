@@ -1,14 +1,11 @@
 -- How the books and the lane changed by a put.
-use Rattle.std.proofs.Common.{Err, List, None, Ok, Result, Some, [], ap, arith, inl, inr, length, max, refl, subst, sym, ℕ, ◌++◌, ◌+◌, ◌<◌, ◌∙◌, ◌∷◌, ◌≡◌, ◌≤◌}
-use Rattle.std.specs.Prelude.{IfErr, IfOk, OnErr}
+use Rattle.std.proofs.Common.{List, [], ap, arith, max, subst, sym, ℕ, ◌++◌, ◌+◌, ◌∙◌, ◌∷◌, ◌≡◌, ◌≤◌}
 use mathlib.Core.Logic.{dite}
 use native.Mathlib.Decide.{ℕ_discrete}
-use Rattle.sv_borrows.specs.Desks.{GoesOn, IsAtDesk}
-use Rattle.sv_installs.proofs.Changed.{changes-install, changes-none, changes-through}
+use Rattle.sv_installs.proofs.Changed.{changes-install}
 use Rattle.sv_installs.specs.Changing.{Changes, changed}
 use Rattle.sv_model.specs.Books.{Books}
 use Rattle.sv_model.specs.Lists.{at}
-use Rattle.sv_model.specs.declared.refusals.Refusal.{Refusal}
 use Rattle.sv_model.specs.declared.writes.Row.{Row}
 use Rattle.sv_model.specs.declared.writes.Write.{Write}
 use Rattle.sv_puts.specs.Rows.{Appends}

@@ -1,7 +1,6 @@
 -- What a put answers, put together from its plan, its switch and its row.
 use Rattle.std.proofs.Common.{Bool, Err, List, None, Ok, Option, Result, Some, [], ap, arith, false, inl, inr, length, refl, subst, sym, true, ℕ, ⊎_elim, ◌<◌, ◌∙◌, ◌∷◌, ◌≡◌}
-use Rattle.std.specs.Prelude.{IfErr, IfOk, OnErr, cond, nat_le}
-use Rattle.sv_borrows.specs.Grown.{Cleans}
+use Rattle.std.specs.Prelude.{IfOk, OnErr, cond, nat_le}
 use Rattle.sv_cells.specs.Calls.{memtables_refusal}
 use Rattle.sv_installs.proofs.Changed.{cleans-journal}
 use Rattle.sv_journal.specs.Calls.{journal_refusal}

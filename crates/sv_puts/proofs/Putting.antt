@@ -1,6 +1,6 @@
 -- A put takes the DB lock and gives it.
-use Rattle.std.proofs.Common.{Bool, List, None, Result, Some, [], ap, arith, map, refl, subst, suc, sym, zero, ℕ, ◌+◌, ◌<◌, ◌∙◌, ◌∷◌, ◌≡◌, ◌≤◌}
-use Rattle.std.specs.Prelude.{length, slice_get, true}
+use Rattle.std.proofs.Common.{Bool, List, None, Result, Some, [], ap, arith, map, refl, subst, suc, sym, zero, ℕ, ◌<◌, ◌∙◌, ◌∷◌, ◌≡◌, ◌≤◌}
+use Rattle.std.specs.Prelude.{slice_get, true}
 use mathlib.Core.Logic.{dite}
 use native.Mathlib.Decide.{dec_le}
 use Rattle.sv_borrows.proofs.CurrentRefs.{has-current}
@@ -10,11 +10,9 @@ use Rattle.sv_installs.specs.Changing.{changed}
 use Rattle.sv_laws.proofs.GrownRegisters.{get_within}
 use Rattle.sv_model.proofs.Entries.{get_none, in-none, some}
 use Rattle.sv_model.specs.Books.{Books}
-use Rattle.sv_model.specs.Families.{IsOwn}
 use Rattle.sv_model.specs.Lists.{In, at, bit, times}
 use Rattle.sv_model.specs.Tasks.{handle, handle_in}
 use Rattle.sv_model.specs.Turns.{IsAccounted}
-use Rattle.sv_model.specs.declared.records.Family.{Family}
 use Rattle.sv_model.specs.declared.refusals.Refusal.{Refusal}
 use Rattle.sv_model.specs.declared.writes.Row.{Row}
 use Rattle.sv_puts.specs.Locked.{PutsLocked}

@@ -1,5 +1,5 @@
 -- A switch, its install, and the new memtable after it.
-use Rattle.std.proofs.Common.{List, None, Option, Some, [], ap, arith, false, length, refl, subst, sym, true, ℕ, ⊎_elim, ◌++◌, ◌+◌, ◌<◌, ◌∙◌, ◌∷◌, ◌≡◌, ◌≢◌, ◌≤◌}
+use Rattle.std.proofs.Common.{List, None, Option, Some, [], ap, arith, false, length, refl, subst, sym, true, ℕ, ⊎_elim, ◌++◌, ◌+◌, ◌<◌, ◌∙◌, ◌∷◌, ◌≡◌, ◌≢◌}
 use Rattle.std.specs.Prelude.{slice_get}
 use Rattle.sv_borrows.proofs.CurrentRefs.{current-big, current-pack}
 use Rattle.sv_borrows.specs.Desks.{GoesOn, IsAtDesk}
@@ -7,7 +7,7 @@ use Rattle.sv_borrows.specs.Grown.{Cleans}
 use Rattle.sv_installs.specs.Installing.{Installs, MayInstall, renewed}
 use Rattle.sv_laws.specs.Cleaning.{IsCleaned}
 use Rattle.sv_laws.specs.NewCurrents.{IsSwitched}
-use Rattle.sv_laws.specs.Installs.{live_super, next_top}
+use Rattle.sv_laws.specs.Installs.{next_top}
 use Rattle.sv_laws.proofs.GrownRegisters.{placed-set}
 use Rattle.sv_model.proofs.Entries.{some}
 use Rattle.sv_model.proofs.Registers.{entry-else, entry-new}
@@ -15,7 +15,6 @@ use Rattle.sv_model.specs.Books.{Books}
 use Rattle.sv_model.specs.Journal.{borne_by, of_family}
 use Rattle.sv_model.specs.Lists.{at}
 use Rattle.sv_model.specs.Registers.{entry}
-use Rattle.sv_model.specs.Supers.{current_of}
 use Rattle.sv_model.specs.Turns.{IsAccounted, IsNewMemtable, Opens}
 use Rattle.sv_model.specs.declared.records.Memtable.{Memtable}
 use Rattle.sv_model.specs.declared.records.SuperVersion.{SuperVersion}

@@ -1,5 +1,5 @@
 -- What a put or a delete of a lane of many answers, and what it leaves.
-use Rattle.std.specs.Prelude.{Bool, IfErr, IfOk, List, Result, [], false, length, true, ℕ, ◌++◌, ◌+◌, ◌∷◌, ◌≡◌, ◌≢◌, ◌≤◌, ◌⊎◌}
+use Rattle.std.specs.Prelude.{Bool, IfErr, IfOk, List, Result, [], false, length, true, ℕ, ◌++◌, ◌+◌, ◌∷◌, ◌≡◌, ◌≤◌, ◌⊎◌}
 use Rattle.sv_borrows.specs.Grown.{Cleans}
 use Rattle.sv_laws.specs.NewCurrents.{IsSwitched}
 use Rattle.sv_laws.specs.Writes.{IsWritten}

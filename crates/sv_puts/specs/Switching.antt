@@ -1,12 +1,9 @@
 -- A family switches to a new memtable.
 use Rattle.std.specs.Prelude.{[], length, ℕ, ◌<◌, ◌≡◌}
 use Rattle.sv_installs.specs.Installing.{Installs}
-use Rattle.sv_laws.specs.Installs.{IsOpen}
 use Rattle.sv_laws.specs.NewCurrents.{IsSwitched}
 use Rattle.sv_model.specs.Books.{Books}
 use Rattle.sv_model.specs.Journal.{borne_by}
-use Rattle.sv_model.specs.declared.records.SuperVersion.{SuperVersion}
-use Rattle.sv_objects.specs.Makings.{IsCellOf}
 use Rattle.sv_puts.specs.Rows.{HasActive}
 use Rattle.sv_rule.specs.Views.{LaneView}
 

@@ -1,4 +1,4 @@
-use Rattle.std.proofs.Common.{Ok, [], ap, length, refl, subst, sym, ◌<◌, ◌∙◌, ◌∷◌, ◌≡◌}
+use Rattle.std.proofs.Common.{Ok, [], ap, length, refl, subst, sym, ◌<◌, ◌∙◌, ◌∷◌}
 use Rattle.std.specs.Prelude.{IfOk}
 use Rattle.sv_borrows.specs.Desks.{GoesOn, IsAtDesk}
 use Rattle.sv_cells.specs.Calls.{memtables_refusal}

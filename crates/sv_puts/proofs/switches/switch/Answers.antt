@@ -1,4 +1,4 @@
-use Rattle.std.proofs.Common.{[], ap, arith, length, subst, sym, ℕ, ◌<◌, ◌∙◌, ◌≡◌}
+use Rattle.std.proofs.Common.{[], ap, arith, length, subst, sym, ℕ, ◌∙◌}
 use Rattle.std.specs.Arc.{arc_value}
 use Rattle.sv_model.specs.Books.{Books}
 use Rattle.sv_rule.specs.Views.{LaneView}
