@@ -4,5 +4,5 @@
 mod checks;
 mod reads;
 
-pub use checks::{check_bytes, other_field};
+pub use checks::{check_bytes, find_checked, other_field};
 pub use reads::{read_bytes, read_checked};

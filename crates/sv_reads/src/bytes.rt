@@ -1,12 +1,13 @@
 // Looking in the bytes of a table.
 ghost use Rattle.std.specs.Prelude.{◌≡◌, IfOk};
-ghost use Rattle.sv_model.specs.TableText.{IsStoredOp, IsTableFile};
-ghost use Rattle.sv_table.specs.Lookups.{IsFoundIn};
+ghost use Rattle.sv_model.specs.TableText.{IsStoredOp};
 ghost use Rattle.sv_table.specs.Views.{op_is};
+ghost use Rattle.sv_reads.specs.OneFile.{BytesAnswer};
 
 use std::alloc::Global;
-use sv_model::{Key, Op, OutOfMemory, Refusal, Value};
-use sv_table::{Hit, find_in};
+use sv_file_checks::find_checked;
+use sv_model::{FileMeta, Key, Op, OutOfMemory, Refusal, Value};
+use sv_table::Hit;
 
 // A copy of what was found.
 fn op_of(alloc: Global, hit: &Hit<'_>) -> Result<Op, OutOfMemory>
@@ -23,18 +24,22 @@ fn op_of(alloc: Global, hit: &Hit<'_>) -> Result<Op, OutOfMemory>
     }
 }
 
-/// A copy of what the table of which the bytes are a text has of the key, at the cut.
+/// A copy of what the bytes of the file tell of the key, at the cut; or they are bad.
 pub(crate) fn op_in(
     alloc: Global,
+    file: &FileMeta,
     bytes: &[u8],
     key: &Key,
     cut: u64,
-) -> Result<Option<Op>, OutOfMemory>
-    requires { IsTableFile bytes.now }
-    ensures { IfOk result (λ op. IsFoundIn bytes.now key.now cut op) }
+) -> Result<Option<Op>, Refusal>
+    ensures { BytesAnswer file.now bytes.now key.now cut result }
 {
-    match find_in(bytes, key, cut) {
-        Some(hit) => Ok(Some(op_of(alloc, &hit)?)),
-        None => Ok(None),
+    match find_checked(file, bytes, key, cut) {
+        Ok(Some(hit)) => match op_of(alloc, &hit) {
+            Ok(op) => Ok(Some(op)),
+            Err(OutOfMemory) => Err(Refusal::OutOfMemory),
+        },
+        Ok(None) => Ok(None),
+        Err(refusal) => Err(refusal),
     }
 }

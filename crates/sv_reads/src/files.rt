@@ -7,8 +7,8 @@ ghost use Rattle.sv_reads.specs.OneFile.{FileAnswers};
 use crate::bytes::op_in;
 use std::alloc::Global;
 use sv_dir::Dir;
-use sv_file_checks::read_checked;
-use sv_model::{FileMeta, Key, Op, OutOfMemory, Refusal};
+use sv_file_checks::read_bytes;
+use sv_model::{FileMeta, Key, Op, Refusal};
 use sv_objects::Body;
 
 // What the file says of the key, at the cut.
@@ -23,13 +23,13 @@ fn find_in_file<D: Dir>(
     ensures same { D.files dir.new ≡ D.files dir.old }
     ensures faults { CountsFault result (D.faults dir.old) (D.faults dir.new) }
 {
-    let bytes = match read_checked(dir, file) {
+    let bytes = match read_bytes(dir, file.number) {
         Ok(bytes) => bytes,
         Err(refusal) => return Err(refusal),
     };
-    match op_in(alloc, bytes.as_slice(), key, cut) {
+    match op_in(alloc, file, bytes.as_slice(), key, cut) {
         Ok(found) => Ok(found),
-        Err(OutOfMemory) => Err(Refusal::OutOfMemory),
+        Err(refusal) => Err(refusal),
     }
 }
 

@@ -4,6 +4,7 @@ pub mod Examples
 pub mod FieldRuns
 pub mod FieldTexts
 pub mod FileText
+pub mod FoundFirst
 pub mod HeaderText
 pub mod ItemLoops
 pub mod KeptRows
@@ -13,4 +14,5 @@ pub mod PlaceText
 pub mod ReaderTexts
 pub mod RowText
 pub mod WholeFiles
+pub mod WordOrder
 pub mod WrittenText

@@ -102,3 +102,11 @@ file_reads bytes h rows s after greatest rest a b c d =
     (bind_path (walked start (entries_in h rows)) (λ s. tail_at h.format s.0.first s.0.key s.1 >>= λ t. ended (h, rows) t.1) (s, after) (Ok (h, rows)) b
     (bind_path (tail_at h.format s.first s.key after) (λ t. ended (h, rows) t.1) (greatest, rest) (Ok (h, rows)) c
     (ap (λ (z : Bool). cond z (Ok (h, rows)) (Err (length rest))) d)))
+
+-- What was found among the rows that were read is what the table has.
+pub found_read : (bytes key : List ℕ) (cut : ℕ) (h : Header) (rest : List ℕ) (found : Option Op) → IsTable bytes h rest → found ≡ found_in h key cut (entries_in h rest) → IsFoundIn bytes key cut found
+found_read bytes key cut h rest found t is = record {
+  of = λ from to bottom rows text.
+      let same = texts_are bytes h.from h.to from to h.bottom bottom t.rows rows t.text text in
+      is ∙ found_rows h key cut (entries_in h rest) t.rows t.are ∙ ap (op_upto key cut) same.rows_are;
+}

@@ -3,3 +3,4 @@ pub mod Lookups
 pub mod Places
 pub mod Reading
 pub mod Views
+pub mod Words

@@ -1,8 +1,9 @@
 -- What looking up a key in a file's bytes answers.
-use Rattle.std.specs.Prelude.{◌≡◌, ℕ, List, Option, None, Result, Ok, Err, map, option_map}
+use Rattle.std.specs.Prelude.{◌≡◌, ◌&&◌, ℕ, nat_le, List, Option, Some, None, Result, Ok, Err, map, option_map, if◌then◌else◌}
 use Rattle.sv_model.specs.declared.writes.Kept.{Kept}
 use Rattle.sv_model.specs.declared.writes.Op.{Op}
 use Rattle.sv_model.specs.declared.cuts.Bottom.{Bottom}
+use Rattle.sv_model.specs.Journal.{same_key}
 use Rattle.sv_model.specs.Order.{first_upto, key_of_kept, end_of_kept}
 use Rattle.sv_model.specs.TableText.{IsTextOf}
 use Rattle.sv_table.specs.Reading.{Header, Entry, kept_of}
@@ -19,6 +20,15 @@ pub record IsFoundIn (bytes key : List ℕ) (cut : ℕ) (found : Option Op) : Ty
 
 abbrev pub hit_op : Option Hit → Option Op
 hit_op found = option_map op_is found
+
+-- what was found first; else this
+abbrev pub found_then : Option Op → Option Op → Option Op
+found_then None later = later
+found_then (Some op) later = Some op
+
+-- what the row does, where it is of the key and its end is at most the cut
+abbrev pub hit_here : Header → List ℕ → ℕ → Entry → Option Op
+hit_here h key cut e = if same_key key e.key && nat_le (kept_of h e).end cut then Some e.op else None
 
 -- the same of rows that were read
 abbrev pub found_in : Header → List ℕ → ℕ → Result (List Entry × List ℕ) ℕ → Option Op

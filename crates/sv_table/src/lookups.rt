@@ -3,12 +3,13 @@ ghost use Rattle.std.specs.Prelude.{◌≡◌, ◌≤◌, ◌&&◌, length, nat_
 ghost use Rattle.sv_model.specs.Flat.{ends_of};
 ghost use Rattle.sv_model.specs.Journal.{same_key};
 ghost use Rattle.sv_model.specs.TableText.{IsTableFile};
-ghost use Rattle.sv_table.specs.Lookups.{IsFoundIn, hit_op, found_in};
+ghost use Rattle.sv_table.specs.Lookups.{IsFoundIn, hit_op, hit_here, found_in, found_then};
 ghost use Rattle.sv_table.specs.Reading.{HasRows, entries_in, kept_of};
 ghost use Rattle.sv_table.specs.Views.{header_is, entry_is};
 
 use crate::headers::{Header, header_at};
 use crate::hits::Hit;
+use crate::key_order::order_bytes;
 use crate::rows::{RowAt, entry_at, see, shape_of, start};
 use sv_model::Key;
 
@@ -26,11 +27,31 @@ pub(crate) fn end_of(header: &Header, number: u8) -> u64
 }
 
 /// Whether the row is of the key, and its end at most the cut.
+#[inline(always)]
 fn answers(header: &Header, row: RowAt<'_>, key: &[u8], cut: u64) -> bool
     requires { row.number ≤ length header.now.bottom.cuts }
     ensures { let kept = kept_of (header_is header.now) (entry_is row.entry) in result ≡ (same_key key.now kept.row.key && nat_le kept.end cut) }
 {
-    key.cmp(row.key).is_eq() && end_of(header, row.number) <= cut
+    order_bytes(key, row.key).is_eq() && end_of(header, row.number) <= cut
+}
+
+/// What was found before the row; else what the row does, where it answers.
+#[inline(always)]
+pub(crate) fn first_hit<'a>(
+    header: &Header,
+    found: Option<Hit<'a>>,
+    row: RowAt<'a>,
+    key: &[u8],
+    cut: u64,
+) -> Option<Hit<'a>>
+    requires { row.number ≤ length header.now.bottom.cuts }
+    ensures { let h = header_is header.now in hit_op result ≡ found_then (hit_op found.entry) (hit_here h key.now cut (entry_is row.entry)) }
+{
+    match found {
+        Some(hit) => Some(hit),
+        None if answers(header, row, key, cut) => Some(row.op),
+        None => None,
+    }
 }
 
 fn find_row<'a>(header: &Header, bytes: &'a [u8], key: &[u8], cut: u64) -> Option<Hit<'a>>

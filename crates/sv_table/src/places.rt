@@ -10,6 +10,7 @@ ghost use Rattle.sv_table.specs.Views.{header_is, entry_is};
 
 use crate::headers::Header;
 use crate::hits::Hit;
+use crate::key_order::order_bytes;
 use crate::lookups::end_of;
 use crate::rows::{RowAt, entry_at, see, shape_of, start};
 use std::alloc::Global;
@@ -60,7 +61,7 @@ fn is_ahead(header: &Header, row: RowAt<'_>, key: &[u8], cut: u64) -> bool
     requires { row.number ≤ length header.now.bottom.cuts }
     ensures { result ≡ is_ahead key_of_kept end_of_kept key.now cut (kept_of (header_is header.now) (entry_is row.entry)) }
 {
-    match row.key.cmp(key) {
+    match order_bytes(row.key, key) {
         Ordering::Less => true,
         Ordering::Equal => end_of(header, row.number) > cut,
         Ordering::Greater => false,
@@ -103,7 +104,7 @@ pub(crate) fn find_row<'a>(
         return None;
     }
     let row = row_of(header, bytes, places[at]);
-    if key.cmp(row.key).is_eq() {
+    if order_bytes(key, row.key).is_eq() {
         Some(row.op)
     } else {
         None

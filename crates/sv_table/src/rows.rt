@@ -9,6 +9,7 @@ use crate::fields::{byte_at, bytes_at, u16_at};
 use crate::formats::{Format, has_cuts};
 use crate::headers::{Header, is_length};
 use crate::hits::Hit;
+use crate::key_order::order_bytes;
 use std::cmp::Ordering;
 
 /// How the rows of a file are written.
@@ -91,7 +92,7 @@ fn is_open(shape: Shape, seen: Seen<'_>) -> bool
 fn key_fits(shape: Shape, seen: Seen<'_>, key: &[u8]) -> bool
     ensures { result ≡ key_fits (shape_is shape) (seen_is seen.entry) key.now }
 {
-    let order = seen.key.cmp(key);
+    let order = order_bytes(seen.key, key);
     if !has_cuts(shape.format) {
         return order.is_lt();
     }
@@ -124,7 +125,8 @@ fn key_at<'a>(shape: Shape, seen: Seen<'_>, bytes: &'a [u8]) -> Result<(&'a [u8]
 fn number_fits(shape: Shape, seen: Seen<'_>, key: &[u8], number: u8) -> bool
     ensures { result ≡ number_fits (shape_is shape) (seen_is seen.entry) key.now number }
 {
-    usize::from(number) <= shape.cuts && (seen.key.cmp(key).is_ne() || number < seen.number)
+    usize::from(number) <= shape.cuts
+        && (order_bytes(seen.key, key).is_ne() || number < seen.number)
 }
 
 /// The number of a row's end; 0 where ends are not written.

@@ -7,7 +7,7 @@ use std::alloc::Global;
 use std::rt::Clock;
 use std::time::{Duration, Instant};
 use sv_model::{Key, Table};
-use sv_table::{Checked, Hit, check, decode, encode, find_in};
+use sv_table::{Checked, Hit, check, check_and_find, decode, encode, find_in};
 
 /// A call at tables of so many rows, made so often.
 #[derive(Clone, Copy)]
@@ -121,6 +121,28 @@ fn finds_in(
     tell(rt, "find_in", series.rows, done, start.elapsed(rt)?)
 }
 
+/// Look-ups that check the bytes on the way, as a read of a file does.
+fn checks_and_finds(
+    rt: &(impl Clock + Print),
+    alloc: Global,
+    text: &[u8],
+    series: Series,
+) -> Result<(), Fault> {
+    let start = Instant::now(rt)?;
+    let mut done: u64 = 0;
+    for round in 0..series.repeats {
+        let number = leap(round, series.rows);
+        let Ok(key) = Key::new(alloc, &digits(number)) else {
+            return Err(Fault::OutOfMemory);
+        };
+        match check_and_find(text, &key, u64::MAX) {
+            Ok((_, Some(Hit::Put(_)))) => done = done.saturating_add(1),
+            _ => return Err(Fault::Wrong),
+        }
+    }
+    tell(rt, "check_and_find", series.rows, done, start.elapsed(rt)?)
+}
+
 fn finds_by(
     rt: &(impl Clock + Print),
     file: &Checked,
@@ -149,6 +171,7 @@ pub fn all(rt: &(impl Clock + Print), alloc: Global, text: &[u8], rows: u32) -> 
     indexes(rt, alloc, text, series)?;
     finds(rt, &table, series)?;
     finds_by(rt, &file, &table, series)?;
+    checks_and_finds(rt, alloc, text, series)?;
     match check(text) {
         Ok(_) => finds_in(rt, alloc, text, series),
         Err(_) => Err(Fault::Wrong),

@@ -1,10 +1,6 @@
 use Rattle.sv_table.specs.Views.{header_is}
-use Rattle.sv_table.proofs.BadFields.{within}
-use Rattle.sv_table.proofs.WholeFiles.{bad_file, head_is}
+use Rattle.sv_table.proofs.WholeFiles.{head_is}
 use Rattle.sv_table.proofs.heads.check.Goals as goal
-
-pub overflow_sub-result : goal.overflow_sub-result
-overflow_sub-result c = within c.args.bytes.now c.in-Err.stuck.left c.in-Err.ensures.gives
 
 pub returns-in-Ok-clause-head : goal.returns-in-Ok-clause-head
 returns-in-Ok-clause-head c =
@@ -12,6 +8,3 @@ returns-in-Ok-clause-head c =
     let h = header_is c.in-Ok.header in
     let rest = c.in-Ok.field-0-1.now in
     head_is bytes h rest c.head_of.result c.in-Ok.ensures.table c.head_of.ensures
-
-pub returns-in-Err-clause-bad : goal.returns-in-Err-clause-bad
-returns-in-Err-clause-bad c = bad_file c.args.bytes.now c.in-Err.stuck.left c.in-Err.ensures.gives

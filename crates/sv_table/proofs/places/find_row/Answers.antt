@@ -15,10 +15,10 @@ pub returns-then-is_eq : goal.returns-then-is_eq
 returns-then-is_eq c =
     let h = header_is c.args.header.now in
     let lt : c.ahead_of-at.result < length c.args.places.now = omega (arith, c.ahead_of-at.ensures.bound, c.if-at-places.false) in
-    λ rows a o. found_row h c.args.bytes.now c.args.places.now c.args.key.now c.args.cut c.ahead_of-at.result lt (kept_of h (entry_is c.row_of-row.result)) c.row_of-row.ensures.row (ap is_eq (sym c.cmp.ensures) ∙ sym c.is_eq.ensures ∙ c.if-is_eq.true) rows a (c.ahead_of-at.ensures.parted rows a o)
+    λ rows a o. found_row h c.args.bytes.now c.args.places.now c.args.key.now c.args.cut c.ahead_of-at.result lt (kept_of h (entry_is c.row_of-row.result)) c.row_of-row.ensures.row (ap is_eq (sym c.order_bytes.ensures) ∙ sym c.is_eq.ensures ∙ c.if-is_eq.true) rows a (c.ahead_of-at.ensures.parted rows a o)
 
 pub returns-else-is_eq : goal.returns-else-is_eq
 returns-else-is_eq c =
     let h = header_is c.args.header.now in
     let lt : c.ahead_of-at.result < length c.args.places.now = omega (arith, c.ahead_of-at.ensures.bound, c.if-at-places.false) in
-    λ rows a o. missed_row h c.args.bytes.now c.args.places.now c.args.key.now c.args.cut c.ahead_of-at.result lt (kept_of h (entry_is c.row_of-row.result)) c.row_of-row.ensures.row (ap is_eq (sym c.cmp.ensures) ∙ sym c.is_eq.ensures ∙ c.if-is_eq.false) rows a o (c.ahead_of-at.ensures.parted rows a o)
+    λ rows a o. missed_row h c.args.bytes.now c.args.places.now c.args.key.now c.args.cut c.ahead_of-at.result lt (kept_of h (entry_is c.row_of-row.result)) c.row_of-row.ensures.row (ap is_eq (sym c.order_bytes.ensures) ∙ sym c.is_eq.ensures ∙ c.if-is_eq.false) rows a o (c.ahead_of-at.ensures.parted rows a o)
