@@ -1,5 +1,5 @@
 -- Changes one after the other.
-use Rattle.std.proofs.Common.{List, [], ap, arith, refl, subst, sym, ℕ, ⊎_elim, ◌++◌, ◌+◌, ◌∙◌, ◌∷◌, ◌≡◌, ◌≤◌}
+use Rattle.std.proofs.Common.{List, [], ap, arith, subst, ℕ, ⊎_elim, ◌++◌, ◌+◌, ◌∙◌, ◌∷◌, ◌≡◌}
 use mathlib.Core.List.{append_assoc}
 use Rattle.sv_borrows.specs.Desks.{GoesOn}
 use Rattle.sv_borrows.specs.Grown.{Cleans}
