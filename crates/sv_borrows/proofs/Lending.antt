@@ -4,7 +4,7 @@ use mathlib.Core.Logic.{dite}
 use native.Mathlib.Decide.{ℕ_discrete}
 use Rattle.sv_borrows.specs.Desks.{AreAlike}
 use Rattle.sv_borrows.specs.Grown.{Cleans, Grows}
-use Rattle.sv_borrows.specs.Lending.{Borrows, BorrowsNone, GivesBack, IsLent, IsNotLent, MayLend, ended_view, fresh_view}
+use Rattle.sv_borrows.specs.Lending.{Borrows, BorrowsNone, Drops, GivesBack, IsLent, IsNotLent, MayLend, ended_view, fresh_view}
 use Rattle.sv_borrows.proofs.Lists.{without-first}
 use Rattle.sv_borrows.proofs.Growing.{Base, givings-none, givings-one, grows-on, in-last}
 use Rattle.sv_model.specs.Books.{Books}
@@ -15,7 +15,7 @@ use Rattle.sv_rule.specs.Blanks.{no_locks}
 use Rattle.sv_rule.specs.ReferencePlays.{dropped, lowers}
 use Rattle.sv_rule.specs.SlotPlays.{IsShown}
 use Rattle.sv_rule.specs.Table.{slot_of}
-use Rattle.sv_rule.specs.Views.{Bodied, Known, LaneView, Locks, SlotView, away, borrow}
+use Rattle.sv_rule.specs.Views.{Bodied, Counts, Known, LaneView, Locks, SlotView, Slots, away, borrow}
 use Rattle.sv_rule.proofs.Basics.{append_none}
 use Rattle.sv_rule.proofs.Sums.{at-put_else, at-put_same}
 use Rattle.sv_slots.specs.References.{IsDropped}
@@ -25,6 +25,9 @@ use Rattle.sv_slots.specs.Borrows.{given_back, hit, missed, stale, swept_back}
 
 none_locks : (v : LaneView) → v.locks ≡ no_locks → record v.locks { db = None } ≡ v.locks
 none_locks v h = ap (λ (k : Locks). record k { db = None }) h ∙ sym h
+
+lowered_none : (p : ℕ) (v : LaneView) → v.locks ≡ no_locks → record v.locks { db = lowers p v.locks.db } ≡ v.locks
+lowered_none p v h = ap (λ (k : Locks). record k { db = lowers p k.db }) h ∙ sym h
 
 apart : (n m : ℕ) → (n ≡ m) ⊎ (n ≢ m)
 apart n m = dite (ℕ_discrete n m) (λ e. inl e) (λ e. inr e)
@@ -161,10 +164,6 @@ module _ (f : ℕ) (v : LaneView) where
     faults = refl;
     misses = refl;
   })
-    where
-      lowered_none : (p : ℕ) (v : LaneView) → v.locks ≡ no_locks
-          → record v.locks { db = lowers p v.locks.db } ≡ v.locks
-      lowered_none p v h = ap (λ (k : Locks). record k { db = lowers p k.db }) h ∙ sym h
 
 -- ---- a miss, and the slot may be lent
 
@@ -270,61 +269,65 @@ module _ (f p : ℕ) (v : LaneView) where
   })
 
   -- a sweep was there, and the reference is dropped
-  module _ (locks : v.locks ≡ no_locks) (none : v.owes ≡ []) where
-    lowered : record v.locks { db = lowers p v.locks.db } ≡ v.locks
-    lowered = ap (λ (k : Locks). record k { db = lowers p k.db }) locks ∙ sym locks
+  pub gives-swept : (t w : LaneView) → t ≡ swept_back f p v → Drops p t w → GivesBack f p v w
+  gives-swept t w e h = subst (λ (z : LaneView). Drops p z w → GivesBack f p v w) (sym e) from h
+    where
+      from : Drops p (swept_back f p v) w → GivesBack f p v w
+      from d = record {
+        grows = d.grows;
+        alike = d.alike;
+        seat = d.seat;
+        locks = d.locks;
+        slot = ap (λ (s : Slots). at away s.slot f) d.slots ∙ at-put_same away v.slots.slot f away;
+        others = λ g ne. ap (λ (s : Slots). at away s.slot g) d.slots ∙ at-put_else away v.slots.slot f g away ne;
+        looked = ap (λ (s : Slots). s.looked) d.slots;
+        hand = d.hand ∙ without-first p v.hand;
+        owes = d.owes;
+        joined = d.joined;
+        givings = d.givings;
+        looks = ap (λ (c : Counts). c.looks) d.counts;
+        uses = omega (arith, ap (λ (c : Counts). c.uses) d.counts);
+        misses = omega (arith, ap (λ (c : Counts). c.misses) d.counts);
+        takes = ap (λ (c : Counts). c.takes) d.counts;
+        faults = ap (λ (c : Counts). c.faults) d.counts;
+        swept = omega (arith, ap (λ (c : Counts). c.swept) d.counts);
+        cached = inr (omega (arith, ap (λ (c : Counts). c.swept) d.counts));
+        locked = λ m. absurd (omega (arith, m, ap (λ (c : Counts). c.swept) d.counts));
+      }
 
-    pub gives-more : (t w : LaneView) → t ≡ swept_back f p v → w ≡ dropped p false t → GivesBack f p v w
-    gives-more t w e h = subst (GivesBack f p v) (sym (h ∙ ap (dropped p false) e)) (record {
-      grows = same-grows v.known v.known refl;
-      alike = λ g. refl;
-      seat = refl;
-      locks = lowered;
-      slot = at-put_same away v.slots.slot f away;
-      others = λ g ne. at-put_else away v.slots.slot f g away ne;
-      looked = refl;
-      hand = without-first p v.hand;
-      owes = refl;
-      joined = refl;
-      givings = givings-none Cleans v.known v.known refl refl;
-      looks = refl;
-      uses = omega arith;
-      misses = omega arith;
-      takes = refl;
-      faults = refl;
-      swept = omega arith;
-      cached = inr (omega arith);
-      locked = λ m. refl;
-    })
+-- ---- dropping
 
-    last : (a b : Books) (s : List ℕ) → Cleans a b → AreAlike s v.known.seen
-        → GivesBack f p v (ended_view a b s (dropped p true (swept_back f p v)))
-    last a b s clean alike = let w = ended_view a b s (dropped p true (swept_back f p v)) in record {
-      grows = subst (λ l. Grows v.known (record v.known { found = v.known.found ++ a ∷ []; left = v.known.left ++ b ∷ []; bodies = l; seen = s }))
-          (sym (append_none v.known.bodies)) (more-grows v.known a b [] s alike);
-      alike = alike;
-      seat = refl;
-      locks = ap (λ (k : Locks). record k { db = None }) locks ∙ sym locks;
-      slot = at-put_same away v.slots.slot f away;
-      others = λ g ne. at-put_else away v.slots.slot f g away ne;
-      looked = refl;
-      hand = without-first p v.hand;
-      owes = sym none;
-      joined = refl;
-      givings = givings-one Cleans v.known w.known a b clean refl refl;
-      looks = refl;
-      uses = omega arith;
-      misses = omega arith;
-      takes = refl;
-      faults = refl;
-      swept = omega arith;
-      cached = inr (omega arith);
-      locked = λ m. absurd (omega (arith, m));
-    }
+module _ (p : ℕ) (v : LaneView) (locks : v.locks ≡ no_locks) (none : v.owes ≡ []) where
+  pub drops-more : (w : LaneView) → w ≡ dropped p false v → Drops p v w
+  drops-more w e = subst (Drops p v) (sym e) (record {
+    grows = same-grows v.known v.known refl;
+    alike = λ g. refl;
+    seat = refl;
+    locks = lowered_none p v locks;
+    slots = refl;
+    counts = refl;
+    hand = refl;
+    owes = refl;
+    joined = refl;
+    givings = givings-none Cleans v.known v.known refl refl;
+  })
 
-    pub gives-last : (t u w : LaneView) → t ≡ swept_back f p v → u ≡ dropped p true t → IsNotLent u w
-        → GivesBack f p v w
-    gives-last t u w e h k =
-        let here : u ≡ dropped p true (swept_back f p v) = h ∙ ap (dropped p true) e in
-        subst (GivesBack f p v) (sym (k.5 ∙ ap (ended_view k.0 k.1 k.2) here))
-        (last k.0 k.1 k.2 k.3 (λ g. k.4 g ∙ ap (λ (z : LaneView). at 0 z.known.seen g) here))
+  last : (a b : Books) (s : List ℕ) → Cleans a b → AreAlike s v.known.seen
+      → Drops p v (ended_view a b s (dropped p true v))
+  last a b s clean alike = let w = ended_view a b s (dropped p true v) in record {
+    grows = subst (λ l. Grows v.known (record v.known { found = v.known.found ++ a ∷ []; left = v.known.left ++ b ∷ []; bodies = l; seen = s }))
+        (sym (append_none v.known.bodies)) (more-grows v.known a b [] s alike);
+    alike = alike;
+    seat = refl;
+    locks = none_locks v locks;
+    slots = refl;
+    counts = refl;
+    hand = refl;
+    owes = sym none;
+    joined = refl;
+    givings = givings-one Cleans v.known w.known a b clean refl refl;
+  }
+
+  pub drops-last : (u w : LaneView) → u ≡ dropped p true v → IsNotLent u w → Drops p v w
+  drops-last u w h k = subst (Drops p v) (sym (k.5 ∙ ap (ended_view k.0 k.1 k.2) h))
+      (last k.0 k.1 k.2 k.3 (λ g. k.4 g ∙ ap (λ (z : LaneView). at 0 z.known.seen g) h))

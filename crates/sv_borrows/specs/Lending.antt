@@ -8,6 +8,7 @@ use Rattle.sv_rule.specs.Blanks.{no_locks}
 use Rattle.sv_rule.specs.LockPlays.{gave_db, took_db}
 use Rattle.sv_rule.specs.ReferencePlays.{added}
 use Rattle.sv_rule.specs.SlotPlays.{IsShown}
+use Rattle.sv_rule.specs.Sums.{without}
 use Rattle.sv_rule.specs.Table.{slot_of}
 use Rattle.sv_rule.specs.Views.{Bodied, LaneView, away, borrow}
 use Rattle.sv_slots.specs.Borrows.{borrowed}
@@ -91,6 +92,24 @@ pub record BorrowsNone (f : ℕ) (v w : LaneView) : Type 0 where
   pub takes : w.counts.takes ≡ v.counts.takes
   pub faults : w.counts.faults ≡ v.counts.faults
   pub missed : w.counts.misses ≡ v.counts.misses + 1
+
+-- the same lane without a reference of pack p
+abbrev pub less : ℕ → LaneView → LaneView
+less p v = record v { hand = without p v.hand }
+
+-- A reference of pack p that the lane had in hand is dropped. The DB lock is taken only where it was the last, for the
+-- cleanup.
+pub record Drops (p : ℕ) (v w : LaneView) : Type 0 where
+  pub grows : Grows v.known w.known
+  pub alike : (g : ℕ) → at 0 w.known.seen g ≡ at 0 v.known.seen g
+  pub seat : w.seat ≡ v.seat
+  pub locks : w.locks ≡ v.locks
+  pub slots : w.slots ≡ v.slots
+  pub counts : w.counts ≡ v.counts
+  pub hand : w.hand ≡ without p v.hand
+  pub owes : w.owes ≡ v.owes
+  pub joined : w.joined ≡ v.joined
+  pub givings : Givings Cleans v.known w.known
 
 -- The borrow of the SuperVersion of pack p is given back.
 pub record GivesBack (f p : ℕ) (v w : LaneView) : Type 0 where

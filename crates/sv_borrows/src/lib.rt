@@ -10,4 +10,4 @@ mod returns;
 pub use cleanups::clean;
 pub use lends::lend;
 pub use parts::{Database, Folder, Held, Seat, Slot, Table};
-pub use returns::{give, settle};
+pub use returns::{give, let_go, settle};

@@ -1,9 +1,9 @@
 // A lane gives a borrow back.
 ghost use Rattle.std.specs.Prelude.{[], ◌<◌, ◌≡◌, ◌≤◌};
 ghost use Rattle.sv_borrows.specs.Desks.{owed_of};
-ghost use Rattle.sv_borrows.specs.Lending.{GivesBack, IsFree, IsNotLent};
+ghost use Rattle.sv_borrows.specs.Lending.{Drops, GivesBack, IsFree, IsNotLent, less};
 ghost use Rattle.sv_borrows.specs.Parts.{body_of};
-ghost use Rattle.sv_model.specs.Lists.{Every, In};
+ghost use Rattle.sv_model.specs.Lists.{Every, In, same, total};
 ghost use Rattle.sv_slots.specs.Known.{CameWith, IsSameSeat, table_of, view_of};
 ghost use Rattle.sv_slots.specs.Seats.{Lends, bodied};
 
@@ -12,6 +12,8 @@ use crate::parts::{Database, Seat, Table};
 use std::marker::Brand;
 use std::sync::Wait;
 use sv_dir::Dir;
+use sv_model::SvRef;
+use sv_objects::Body;
 use sv_slots::{Back, Borrow, Sub};
 
 /// What the lane owes after a drop is cleaned up, for which the DB lock is taken. Takes no memory.
@@ -26,6 +28,26 @@ pub fn settle<D: Dir + Drop, R: Wait>(rt: &R, core: &Table<D>, seat: &mut Seat<D
     let mut held = core.take_state(rt, seat);
     clean(rt, core, seat, &mut held, left);
     core.give_state::<Brand>(seat, held);
+}
+
+/// Drops a reference that the lane has in hand. Where it was the last, the DB lock is taken for the cleanup. Takes no
+/// memory.
+pub fn let_go<D: Dir + Drop, R: Wait>(
+    rt: &R,
+    core: &Table<D>,
+    seat: &mut Seat<D>,
+    held: SvRef<Body>,
+)
+    requires table { CameWith (table_of core.now) seat.old }
+    requires free { IsFree (less held.pack (view_of seat.old)) × ((view_of seat.old).owes ≡ []) }
+    requires held { (256 ≤ held.pack) × (0 < total (same held.pack) (view_of seat.old).hand) }
+    ensures same { IsSameSeat seat.old seat.new }
+    ensures drops { Drops held.pack (view_of seat.old) (view_of seat.new) }
+{
+    let left = core.drop_ref(seat, held);
+    if let Sub::Last(_) = &left {
+        settle(rt, core, seat, left);
+    }
 }
 
 /// Gives a borrow back. The lane's slot caches it, unless a sweep was there: then the reference is dropped, and where it
@@ -46,8 +68,5 @@ pub fn give<D: Dir + Drop, R: Wait>(
     let Back::Swept(sv) = core.give_back(seat, lent) else {
         return;
     };
-    let left = core.drop_ref(seat, sv);
-    if let Sub::Last(_) = &left {
-        settle(rt, core, seat, left);
-    }
+    let_go(rt, core, seat, sv);
 }

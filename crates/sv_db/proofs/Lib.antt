@@ -1,7 +1,6 @@
-pub mod Looking
-pub mod ReadViews
-pub mod Texts
-pub mod Finding
-pub mod Getting
 pub mod OpenedBooks
-pub mod AtRest
+pub mod Keeping
+pub mod Naming
+pub mod Asking
+pub mod Pinned
+pub mod OpenedLocals

@@ -1,9 +1,7 @@
 -- The books, the cells and the seats of a database that is new.
 use Rattle.std.proofs.Common.{List, None, Option, Some, [], ap, arith, length, refl, subst, suc, sym, zero, ℕ, ⊎_elim, ◌++◌, ◌<◌, ◌∙◌, ◌∷◌, ◌≡◌, ◌≤◌}
 use Rattle.std.specs.Prelude.{slice_get}
-use Rattle.atomic_table.specs.Seated.{TableId}
-use Rattle.sv_borrows.specs.Lending.{IsAtRest, MayLend}
-use Rattle.sv_db.specs.Opening.{AreReady}
+use Rattle.sv_borrows.specs.Lending.{IsAtRest}
 use Rattle.sv_laws.proofs.Opened.{first-opening}
 use Rattle.sv_model.proofs.Entries.{get_none, some}
 use Rattle.sv_model.specs.Books.{Books}
@@ -12,11 +10,9 @@ use Rattle.sv_model.specs.Openings.{opening_books}
 use Rattle.sv_model.specs.Steady.{Sound}
 use Rattle.sv_rule.specs.Begins.{FirstBooks}
 use Rattle.sv_rule.specs.Views.{Disk, Start}
-use Rattle.sv_rule.specs.declared.parts.Parts.{Ghosts}
 use Rattle.sv_rule_seats.proofs.NewBooks.{new-books}
 use Rattle.sv_slots.proofs.Rows.{get-last}
-use Rattle.sv_slots.specs.Openings.{AreOpened, FirstCells, opened_view}
-use Rattle.sv_slots.specs.declared.table.LaneSeat.{LaneSeat}
+use Rattle.sv_slots.specs.Openings.{FirstCells, opened_view}
 
 pub first-books : (b : Books) (next : ℕ) (d : Disk) → b ≡ opening_books next → Sound b → 1 ≤ next
     → (1 ≡ length b.families) × FirstBooks b d
@@ -74,7 +70,7 @@ are-first cells count are = record {
 
 -- ---- seats
 
-opened-rests : (lanes : ℕ) (start : Start) (lane : ℕ) → IsAtRest (opened_view lanes start lane)
+pub opened-rests : (lanes : ℕ) (start : Start) (lane : ℕ) → IsAtRest (opened_view lanes start lane)
 opened-rests lanes start zero = record {
   free = record { alive = refl; locks = refl; ends = refl; few = omega arith };
   owes = refl;
@@ -84,19 +80,4 @@ opened-rests lanes start (suc lane) = record {
   free = record { alive = refl; locks = refl; ends = refl; few = omega arith };
   owes = refl;
   away_all = λ f. refl;
-}
-
-opened-lends : (lanes : ℕ) (start : Start) (lane : ℕ) → MayLend 0 (opened_view lanes start lane)
-opened-lends lanes start zero = (omega arith, omega arith, refl)
-opened-lends lanes start (suc lane) = (omega arith, omega arith, refl)
-
-pub are-ready : {P S D C B : Type 0} {g : Ghosts P S D C B} (t : TableId) (lanes : ℕ) (start : Start)
-    (seats : List (LaneSeat P S D C B g)) → AreOpened t lanes start seats → AreReady t lanes seats
-are-ready t lanes start seats opened = record {
-  count = opened.count;
-  each = λ i s at. let it = opened.each i s at in record {
-    table = it.table;
-    rest = subst IsAtRest (sym it.view_is) (opened-rests lanes start i);
-    lend = subst (MayLend 0) (sym it.view_is) (opened-lends lanes start i);
-  };
 }

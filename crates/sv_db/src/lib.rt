@@ -1,11 +1,15 @@
-//! A database of many lanes, each of which reads the current SuperVersion of a family by the borrow that its slot caches.
+//! A database of many lanes: each gets and puts by the names of families, and pins what it reads.
 #![tactic(auto)]
 
-mod cells;
-mod files;
-mod gets;
+mod handles;
+mod locals;
+mod named_gets;
+mod named_pins;
+mod named_puts;
+mod opened;
 mod openings;
-mod reads;
+mod pins;
+mod unopened;
 
-pub use gets::{Got, get_of};
-pub use openings::open;
+pub use locals::{Db, Local, MAX_PINS};
+pub use opened::open_db;

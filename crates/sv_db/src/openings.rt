@@ -1,6 +1,6 @@
 // The opening of a database that is new.
 ghost use Rattle.std.specs.Prelude.{IfErr, IfOk, None, Some, [], ◌<◌, ◌≡◌, ◌≤◌};
-ghost use Rattle.sv_db.specs.Opening.{AreReady, new_start};
+ghost use Rattle.sv_db.specs.Opening.{new_start};
 ghost use Rattle.sv_model.specs.Openings.{opening_books};
 ghost use Rattle.sv_model.specs.Steady.{Sound};
 ghost use Rattle.sv_slots.specs.Known.{table_of};
@@ -45,11 +45,9 @@ fn first_cells(alloc: Global) -> Result<Vec<Slot>, OutOfMemory>
     Ok(cells)
 }
 
-/// Opens a database that is new: its one family is `default`, without writes and files, and each lane has a handle of
-/// it. It has `lanes` lanes, 1 to 32; the seats are theirs, that of lane 0 first. `next` is the number of the first file
-/// that it makes, from 1; files that the directory has already stay as they are, and the database knows none of them.
-/// Where there is no memory the directory comes back as it was.
-pub fn open<D: Dir + Drop>(
+// The table of a database that is new, with the seats of its lanes. Where there is no memory the directory comes back as
+// it was.
+pub(crate) fn open<D: Dir + Drop>(
     alloc: Global,
     lanes: u8,
     next: FileNumber,
@@ -58,7 +56,6 @@ pub fn open<D: Dir + Drop>(
     requires lanes { (0 < lanes) × (lanes ≤ 32) }
     requires next { 1 ≤ next }
     ensures opened { IfOk result (λ t. AreOpened (table_of t.0) lanes (new_start (D.files dir.value) (D.faults dir.value) next) t.1.items) }
-    ensures ready { IfOk result (λ t. AreReady (table_of t.0) lanes t.1.items) }
     ensures err { IfErr result (λ back. back ≡ dir) }
 {
     let Ok(state) = first_state(alloc, next) else {

@@ -1,7 +1,11 @@
-//! Tests of a database of two lanes: each lane steps by its own seat, from one thread.
+//! Tests of a database of two lanes: each lane steps in turn, from one thread.
 #![tactic(auto)]
 
 #[cfg(test)]
 mod get_tests;
 #[cfg(test)]
 mod lanes;
+#[cfg(test)]
+mod pin_tests;
+#[cfg(test)]
+mod words;

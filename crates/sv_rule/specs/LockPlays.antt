@@ -171,16 +171,17 @@ HasRef v p = (1 ≤ times p v.hand) ⊎ ((f : ℕ) × (floor : ℕ) × (f < 16) 
 abbrev pub FindsAsBooks : LaneView → ℕ → Option Cell → Type 0
 FindsAsBooks v c x = (d : Desk) → v.locks.db ≡ Some d → CellSays d.books.memtables d.books.journal (times c d.due) 0 c x
 
--- A lane that has a reference finds the memtables that its body names. Where it has a borrow, the active one has rows
--- that reach the borrow's floor.
+-- A lane that has a reference finds the memtables that its body names; the rows of the active one end at no more than the
+-- greatest number of writes. Where it has a borrow, they reach the borrow's floor.
 pub record FindsAsBody (v : LaneView) (c : ℕ) (x : Option Cell) : Type 0 where
   pub active : (b : Bodied) → In b v.known.bodies → HasRef v b.pack → b.body.cell ≡ c
       → HasMem x b.body.descriptor.active
   pub frozen : (b : Bodied) (k : FrozenAt) → In b v.known.bodies → HasRef v b.pack → In k b.body.frozen → k.cell ≡ c
       → HasMem x k.frozen.id
   pub floor : (b : Bodied) (f floor : ℕ) (k : Cell) → In b v.known.bodies → f < 16 → slot_of v f ≡ borrow b.pack floor
-      → b.body.cell ≡ c → x ≡ Some k
-      → (floor ≤ b.body.descriptor.base + length k.rows) × (b.body.descriptor.base + length k.rows ≤ MAX_WRITES)
+      → b.body.cell ≡ c → x ≡ Some k → floor ≤ b.body.descriptor.base + length k.rows
+  pub most : (b : Bodied) (k : Cell) → In b v.known.bodies → HasRef v b.pack → b.body.cell ≡ c → x ≡ Some k
+      → b.body.descriptor.base + length k.rows ≤ MAX_WRITES
 
 module _ {S D C B : Type 0} (cell : C → Option Cell) where
   pub record TookCell (c : ℕ) (m : Me (Stored S D C B) LaneView) (r : ℕ) (n : Me (Stored S D C B) LaneView) : Type

@@ -1,9 +1,10 @@
 -- What a lane finds in a cell that it takes.
-use Rattle.std.proofs.Common.{List, Option, [], ap, arith, inr, slice_get, subst, suc, sym, zero, ℕ, ◌%◌, ◌/◌, ◌<◌, ◌∙◌, ◌∷◌, ◌≡◌, ◌≤◌}
+use Rattle.std.proofs.Common.{List, Option, Some, [], ap, arith, inr, length, slice_get, subst, suc, sym, zero, ℕ, ◌%◌, ◌+◌, ◌/◌, ◌<◌, ◌∙◌, ◌∷◌, ◌≡◌, ◌≤◌}
 use mathlib.Core.Option.{some}
 use lib.ListN.{get_elem?}
 use Rattle.sv_model.specs.Books.{Books}
 use Rattle.sv_model.specs.Cells.{Cell}
+use Rattle.sv_model.specs.Journal.{of_family}
 use Rattle.sv_model.specs.Lawful.{Lawful}
 use Rattle.sv_model.specs.Lists.{Every, In, bit, times, total, at}
 use Rattle.sv_model.specs.declared.records.Memtable.{Memtable}
@@ -58,6 +59,11 @@ occupied-has b due fill c x lawful z o (fills_up p e f) = absurd (omega arith)
 occupied-has b due fill c x lawful z o (is_vacant f e) = absurd (f o)
 occupied-has b due fill c x lawful z o (is_due f d m it at gone e) = absurd (f o)
 
+-- the memtable ends where the body's SuperVersion does, which no write of its family is beyond
+abbrev EndsAt : Books → Bodied → Cell → Type 0
+EndsAt b y k = (y.body.descriptor.base + length k.rows ≡ end_at b y.pack)
+    × (y.body.descriptor.base + length k.rows ≤ length (of_family y.body.descriptor.family b.journal))
+
 pub finds-body : (b : Books) (vs : List LaneView) (v : LaneView) → Lawful b → Every (BodyFits b) v.known.bodies
     → ((p : ℕ) → 256 ≤ p → HasRef v p → LiveAt b.supers (p / 256) (p % 256))
     → ((f : ℕ) → f < 16 → floor_of (slot_of v f) ≤ end_at b (pack_of (slot_of v f))) → (c : ℕ) (x : Option Cell)
@@ -84,14 +90,11 @@ finds-body b vs v lawful bodies refs floors c x z says = record {
         is = k.cell_is ∙ is;
       }) says;
   floor = λ y f floor k has near borrows is found.
-      let t = bodies has.at y has.is in
-      let mem = has_active y has (inr (f, floor, near, borrows)) is in
-      let active : y.body.descriptor.active ≡ k.id = sym mem.2
-      ∙ ap (λ (g : Cell). g.id) (some_is (sym mem.1 ∙ found)) in
-      let ends = active-end b lawful (total (dues c) vs) (total (fills c) vs) c x k y t z says found active in (
-        omega (arith, floors f near, ap floor_of borrows, ap (λ q. end_at b (pack_of q)) borrows, ends.0),
-        omega (arith, ends.1, family_le y.body.descriptor.family b.journal, lawful.limits.writes),
-      );
+      let ends = ends_of y has (inr (f, floor, near, borrows)) is k found in
+      omega (arith, floors f near, ap floor_of borrows, ap (λ q. end_at b (pack_of q)) borrows, ends.0);
+  most = λ y k has held is found.
+      let ends = ends_of y has held is k found in
+      omega (arith, ends.1, family_le y.body.descriptor.family b.journal, lawful.limits.writes);
 }
   where
     has_active : (y : Bodied) → In y v.known.bodies → HasRef v y.pack → y.body.cell ≡ c
@@ -109,3 +112,13 @@ finds-body b vs v lawful bodies refs floors c x z says = record {
           is = sym t.cell_is ∙ is;
         }) says in
         (found.0, found.1, found.2 ∙ ap (λ d. d.active) (sym t.descriptor))
+
+    -- where the rows of the active one end
+    ends_of : (y : Bodied) (has : In y v.known.bodies) → HasRef v y.pack → y.body.cell ≡ c → (k : Cell) → x ≡ Some k
+        → EndsAt b y k
+    ends_of y has held is k found =
+        let t = bodies has.at y has.is in
+        let mem = has_active y has held is in
+        let active : y.body.descriptor.active ≡ k.id = sym mem.2
+        ∙ ap (λ (g : Cell). g.id) (some_is (sym mem.1 ∙ found)) in
+        active-end b lawful (total (dues c) vs) (total (fills c) vs) c x k y t z says found active
