@@ -51,10 +51,24 @@ fn finds_nothing_in_a_new_database(rt: HostRuntime) -> Result<(), Fail> {
 fn finds_what_another_lane_wrote(rt: HostRuntime) -> Result<(), Fail> {
     let (db, mut first, mut second) = double(rt.alloc())?;
     let (family, alloc) = (name("default")?, rt.alloc());
-    let put = first.put(&rt, alloc, &db, &family, key(alloc, "k")?, value(alloc, "1")?);
+    let put = first.put(
+        &rt,
+        alloc,
+        &db,
+        &family,
+        key(alloc, "k")?,
+        value(alloc, "1")?,
+    );
     assert_eq!(rt; put, Ok(1));
     finds(&rt, alloc, &db, &mut second, "1", 1)?;
-    let put = second.put(&rt, alloc, &db, &family, key(alloc, "k")?, value(alloc, "2")?);
+    let put = second.put(
+        &rt,
+        alloc,
+        &db,
+        &family,
+        key(alloc, "k")?,
+        value(alloc, "2")?,
+    );
     assert_eq!(rt; put, Ok(2));
     finds(&rt, alloc, &db, &mut first, "2", 2)?;
     let gone = first.delete(&rt, alloc, &db, &family, key(alloc, "k")?);
@@ -72,7 +86,14 @@ fn refuses_a_name_that_no_family_has(rt: HostRuntime) -> Result<(), Fail> {
     let (family, alloc) = (name("other")?, rt.alloc());
     let got = first.get(&rt, alloc, &db, &family, &key(alloc, "k")?);
     assert_eq!(rt; got.err(), Some(Refusal::NoFamily));
-    let put = first.put(&rt, alloc, &db, &family, key(alloc, "k")?, value(alloc, "1")?);
+    let put = first.put(
+        &rt,
+        alloc,
+        &db,
+        &family,
+        key(alloc, "k")?,
+        value(alloc, "1")?,
+    );
     assert_eq!(rt; put, Err(Refusal::NoFamily));
     let pin = first.pin(&rt, &db, &family);
     assert_eq!(rt; pin, Err(Refusal::NoFamily));

@@ -9,9 +9,7 @@ use sv_dir::MemDir;
 use sv_model::{FileNumber, OutOfMemory};
 
 /// The database with its lanes.
-pub fn double(
-    alloc: Global,
-) -> Result<(Db<MemDir>, Local<MemDir>, Local<MemDir>), OutOfMemory>
+pub fn double(alloc: Global) -> Result<(Db<MemDir>, Local<MemDir>, Local<MemDir>), OutOfMemory>
     ensures first { IfOk result (λ t. IsLocal (table_of t.0.core) t.0.lanes t.1.lane t.1.handles t.1.pins t.1.seat) }
     ensures second { IfOk result (λ t. IsLocal (table_of t.0.core) t.0.lanes t.2.lane t.2.handles t.2.pins t.2.seat) }
 {

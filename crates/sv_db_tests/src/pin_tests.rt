@@ -14,7 +14,14 @@ fn reads_through_a_pin(rt: HostRuntime) -> Result<(), Fail> {
     let (db, mut first, mut second) = double(rt.alloc())?;
     let (family, alloc) = (name("default")?, rt.alloc());
     assert_eq!(rt; first.pin(&rt, &db, &family), Ok((0, SvSerial(1))));
-    let put = second.put(&rt, alloc, &db, &family, key(alloc, "k")?, value(alloc, "1")?);
+    let put = second.put(
+        &rt,
+        alloc,
+        &db,
+        &family,
+        key(alloc, "k")?,
+        value(alloc, "1")?,
+    );
     assert_eq!(rt; put, Ok(1));
     let got = first.get_pinned(&rt, alloc, &db, 0, &key(alloc, "k")?)?;
     assert!(rt; is(&got.value, "1"));
