@@ -30,18 +30,22 @@ use Rattle.sv_rule.specs.declared.parts.Parts.{Ghosts}
 use Rattle.sv_slots.specs.Known.{IsSameSeat, view_of}
 use Rattle.sv_slots.specs.declared.table.LaneSeat.{LaneSeat}
 
--- The lane has its seat, its handles and no locks or borrows as before, and forgot nothing.
-pub record Keeps (v w : LaneView) : Type 0 where
+-- The lane has its seat and no locks or borrows as before, and forgot nothing.
+pub record Carries (v w : LaneView) : Type 0 where
   pub seat : w.seat ≡ v.seat
   pub locks : w.locks ≡ v.locks
   pub away : (f : ℕ) → slot_of v f ≡ away → slot_of w f ≡ away
   pub owes : w.owes ≡ v.owes
   pub lane : w.known.lane ≡ v.known.lane
-  pub handles : w.known.task.handles ≡ v.known.task.handles
   pub bodies : Continues v.known.bodies w.known.bodies
   pub fits : (b : Books) → Fits b w.known → Fits b v.known
 
-module _ (v w : LaneView) (k : Keeps v w) where
+-- so it has its handles
+pub record Keeps (v w : LaneView) : Type 0 where
+  pub carries : Carries v w
+  pub handles : w.known.task.handles ≡ v.known.task.handles
+
+module _ (v w : LaneView) (k : Carries v w) where
   pub still-rests : length w.hand < 65500 → IsAtRest v → IsAtRest w
   still-rests few rest = record {
     free = record {
@@ -54,11 +58,13 @@ module _ (v w : LaneView) (k : Keeps v w) where
     away_all = λ f. k.away f (rest.away_all f);
   }
 
-  pub still-handles : (names : List (Option (List ℕ))) → HandlesFit names v → HandlesFit names w
-  still-handles names h = record {
+  pub still-handles : (names : List (Option (List ℕ))) → w.known.task.handles ≡ v.known.task.handles → HandlesFit names v
+      → HandlesFit names w
+  still-handles names same h = record {
     long = h.long;
-    count = λ f near. ap (times f) k.handles ∙ h.count f near;
+    count = λ f near. ap (times f) same ∙ h.count f near;
     named = λ f name own b fits. h.named f name own b (k.fits b fits);
+    distinct = h.distinct;
   }
 
   pub still-pinned : (x : Bodied) → IsPinned v x → IsPinned w x
@@ -77,23 +83,36 @@ module _ (v w : LaneView) (k : Keeps v w) where
   }
 
 module _ {P S D C B : Type 0} {g : Ghosts P S D C B} (t : TableId) (lanes lane : ℕ) (names : List (Option (List ℕ)))
-    (pins : List (Option (SvRef Kept))) (old new : LaneSeat P S D C B g) (same : IsSameSeat old new)
-    (k : Keeps (view_of old) (view_of new)) (was : IsLocal t lanes lane names pins old) where
-  -- with pins that may have changed
-  pub local-with : (after : List (Option (SvRef Kept))) → length (view_of new).hand < 65500
-      → PinsFit after (view_of new) → IsLocal t lanes lane names after new
-  local-with after few fit = record {
-    table = same.0 ∙ was.table;
-    rest = still-rests (view_of old) (view_of new) k few was.rest;
-    some = (was.some.0, was.some.1, was.some.2 ∙ sym (ap (λ (s : Seat). s.lanes) k.seat));
-    number = (was.number.0, was.number.1 ∙ sym k.lane);
-    handles = still-handles (view_of old) (view_of new) k names was.handles;
-    pins = fit;
-  }
+    (pins : List (Option (SvRef Kept))) (old new : LaneSeat P S D C B g) (same : IsSameSeat old new) where
+  module _ (k : Carries (view_of old) (view_of new)) (was : IsLocal t lanes lane names pins old) where
+    -- with handles and pins that may have changed
+    local-of : (handles : List (Option (List ℕ))) (after : List (Option (SvRef Kept))) → length (view_of new).hand < 65500
+        → HandlesFit handles (view_of new) → PinsFit after (view_of new) → IsLocal t lanes lane handles after new
+    local-of handles after few own fit = record {
+      table = same.0 ∙ was.table;
+      rest = still-rests (view_of old) (view_of new) k few was.rest;
+      some = (was.some.0, was.some.1, was.some.2 ∙ sym (ap (λ (s : Seat). s.lanes) k.seat));
+      number = (was.number.0, was.number.1 ∙ sym k.lane);
+      handles = own;
+      pins = fit;
+    }
 
-  pub still-local : (view_of new).hand ≡ (view_of old).hand → IsLocal t lanes lane names pins new
-  still-local hand = local-with pins (subst (λ l. length l < 65500) (sym hand) was.rest.free.few)
-      (still-pins (view_of old) (view_of new) k pins hand was.pins)
+    -- with handles that may have changed
+    pub handled-local : (handles : List (Option (List ℕ))) → (view_of new).hand ≡ (view_of old).hand
+        → HandlesFit handles (view_of new) → IsLocal t lanes lane handles pins new
+    handled-local handles hand own = local-of handles pins (subst (λ l. length l < 65500) (sym hand) was.rest.free.few) own
+        (still-pins (view_of old) (view_of new) k pins hand was.pins)
+
+  module _ (k : Keeps (view_of old) (view_of new)) (was : IsLocal t lanes lane names pins old) where
+    -- with pins that may have changed
+    pub local-with : (after : List (Option (SvRef Kept))) → length (view_of new).hand < 65500
+        → PinsFit after (view_of new) → IsLocal t lanes lane names after new
+    local-with after few fit = local-of k.carries was names after few
+        (still-handles (view_of old) (view_of new) k.carries names k.handles was.handles) fit
+
+    pub still-local : (view_of new).hand ≡ (view_of old).hand → IsLocal t lanes lane names pins new
+    still-local hand = local-with pins (subst (λ l. length l < 65500) (sym hand) was.rest.free.few)
+        (still-pins (view_of old) (view_of new) k.carries pins hand was.pins)
 
 -- ---- calls
 
@@ -106,51 +125,59 @@ module _ (v w : LaneView) (grows : Grows v.known w.known) where
 
 pub goes-keeps : (f : ℕ) (v w : LaneView) → Goes f v w → Keeps v w
 goes-keeps f v w h = record {
-  seat = h.seat;
-  locks = h.locks;
-  away = λ g was. dite (ℕ_discrete g f) (λ e. ap (slot_of w) e ∙ h.slot) (λ ne. h.others g ne ∙ was);
-  owes = h.owes;
-  lane = base_lane v w h.grows;
+  carries = record {
+    seat = h.seat;
+    locks = h.locks;
+    away = λ g was. dite (ℕ_discrete g f) (λ e. ap (slot_of w) e ∙ h.slot) (λ ne. h.others g ne ∙ was);
+    owes = h.owes;
+    lane = base_lane v w h.grows;
+    bodies = h.grows.bodies;
+    fits = grows-fits v.known w.known h.grows;
+  };
   handles = base_handles v w h.grows;
-  bodies = h.grows.bodies;
-  fits = grows-fits v.known w.known h.grows;
 }
 
 pub reads-keeps : (n : ℕ) (v w : LaneView) → Reads n v w → Keeps v w
 reads-keeps n v w h = record {
-  seat = h.seat;
-  locks = h.locks;
-  away = λ g was. ap (λ (s : Slots). at away s.slot g) h.slots ∙ was;
-  owes = h.owes;
-  lane = base_lane v w h.grows;
+  carries = record {
+    seat = h.seat;
+    locks = h.locks;
+    away = λ g was. ap (λ (s : Slots). at away s.slot g) h.slots ∙ was;
+    owes = h.owes;
+    lane = base_lane v w h.grows;
+    bodies = h.grows.bodies;
+    fits = grows-fits v.known w.known h.grows;
+  };
   handles = base_handles v w h.grows;
-  bodies = h.grows.bodies;
-  fits = grows-fits v.known w.known h.grows;
 }
 
 pub drops-keeps : (p : ℕ) (v w : LaneView) → Drops p v w → Keeps v w
 drops-keeps p v w h = record {
-  seat = h.seat;
-  locks = h.locks;
-  away = λ g was. ap (λ (s : Slots). at away s.slot g) h.slots ∙ was;
-  owes = h.owes;
-  lane = base_lane v w h.grows;
+  carries = record {
+    seat = h.seat;
+    locks = h.locks;
+    away = λ g was. ap (λ (s : Slots). at away s.slot g) h.slots ∙ was;
+    owes = h.owes;
+    lane = base_lane v w h.grows;
+    bodies = h.grows.bodies;
+    fits = grows-fits v.known w.known h.grows;
+  };
   handles = base_handles v w h.grows;
-  bodies = h.grows.bodies;
-  fits = grows-fits v.known w.known h.grows;
 }
 
 -- the reference that a pin keeps changes nothing of that
 pub less-keeps : (p : ℕ) (v w : LaneView) → Keeps v (less p w) → Keeps v w
 less-keeps p v w h = record {
-  seat = h.seat;
-  locks = h.locks;
-  away = h.away;
-  owes = h.owes;
-  lane = h.lane;
+  carries = record {
+    seat = h.carries.seat;
+    locks = h.carries.locks;
+    away = h.carries.away;
+    owes = h.carries.owes;
+    lane = h.carries.lane;
+    bodies = h.carries.bodies;
+    fits = h.carries.fits;
+  };
   handles = h.handles;
-  bodies = h.bodies;
-  fits = h.fits;
 }
 
 asked-grows : (v : LaneView) (b : Books) → Grows v.known (asked_view b v).known
@@ -166,14 +193,16 @@ asked-grows v b = record {
 
 pub asks-keeps : (l : ℕ) (name : List ℕ) (e : Refusal) (v w : LaneView) → Asks l name e v w → Keeps v w
 asks-keeps l name e v w h = subst (Keeps v) (sym h.is) (record {
-  seat = refl;
-  locks = refl;
-  away = λ f was. was;
-  owes = refl;
-  lane = refl;
+  carries = record {
+    seat = refl;
+    locks = refl;
+    away = λ f was. was;
+    owes = refl;
+    lane = refl;
+    bodies = continues-itself v.known.bodies;
+    fits = grows-fits v.known (asked_view h.found v).known (asked-grows v h.found);
+  };
   handles = refl;
-  bodies = continues-itself v.known.bodies;
-  fits = grows-fits v.known (asked_view h.found v).known (asked-grows v h.found);
 })
 
 pub asks-hand : (l : ℕ) (name : List ℕ) (e : Refusal) (v w : LaneView) → Asks l name e v w → w.hand ≡ v.hand
@@ -231,14 +260,16 @@ module _ (a b : Books) (more : List Bodied) (writes : List Write) (seen looked :
 
   put-keeps : Keeps v after_put
   put-keeps = record {
-    seat = refl;
-    locks = refl;
-    away = λ f was. was;
-    owes = refl;
-    lane = refl;
+    carries = record {
+      seat = refl;
+      locks = refl;
+      away = λ f was. was;
+      owes = refl;
+      lane = refl;
+      bodies = (more, refl);
+      fits = λ c t. grows-fits v.known without_writes put-grows c (fewer-fits c t);
+    };
     handles = refl;
-    bodies = (more, refl);
-    fits = λ c t. grows-fits v.known without_writes put-grows c (fewer-fits c t);
   }
 
 pub puts-keeps : (l : ℕ) (name : List ℕ) (row : Row) (r : Result ℕ Refusal) (v w : LaneView) → Puts l name row r v w

@@ -4,3 +4,4 @@ pub mod Naming
 pub mod Asking
 pub mod Pinned
 pub mod OpenedLocals
+pub mod Handled

@@ -51,7 +51,7 @@ bit_at [] l e = absurd (get_none l true e)
 bit_at (b ∷ handles) zero e = ap bit (some e)
 bit_at (b ∷ handles) (suc l) e = bit_at handles l e
 
-name_at : (o : Option (Option (List ℕ))) → 1 ≤ has_name o → (name : List ℕ) × (o ≡ Some (Some name))
+pub name_at : (o : Option (Option (List ℕ))) → 1 ≤ has_name o → (name : List ℕ) × (o ≡ Some (Some name))
 name_at (Some (Some name)) h = (name, refl)
 name_at (Some None) h = absurd (omega (arith, h))
 name_at None h = absurd (omega (arith, h))

@@ -80,6 +80,7 @@ first-handles v own = record {
   long = refl;
   count = λ f near. ap (times f) own ∙ one f;
   named = λ f name is b fits. by f name is b fits;
+  distinct = only;
 }
   where
     one : (f : ℕ) → times f (0 ∷ []) ≡ has_name (slice_get first_handles f)
@@ -90,6 +91,11 @@ first-handles v own = record {
     by zero name is b fits = let d = fits.lawful.default in
         record { it = d.it; at = d.at; name_is = d.name_is ∙ some (some is) }
     by (suc k) name is b fits = absurd (none-there 15 k name is)
+
+    only : (f g : ℕ) (name : List ℕ) → IsHandleOf name first_handles f → IsHandleOf name first_handles g → f ≡ g
+    only zero zero name is other = refl
+    only (suc k) g name is other = absurd (none-there 15 k name is)
+    only zero (suc k) name is other = absurd (none-there 15 k name other)
 
 first-pins : (v : LaneView) → v.hand ≡ [] → PinsFit (replicate 16 None) v
 first-pins v none = record {

@@ -68,7 +68,7 @@ adds-fit f pins n sv v w near fit free p = record {
       (λ e. let same : sv ≡ k = some (some (sym (placed-set pins n None (Some sv) free).here
       ∙ ap (slice_get (slice_set pins n (Some sv))) (sym e) ∙ is)) in
       subst (λ z. IsPinned w (pinned z)) same new)
-      (λ ne. still-pinned v w (less-keeps (pinned sv).pack v w (goes-keeps f v (less (pinned sv).pack w) p.goes)) (pinned k)
+      (λ ne. still-pinned v w (less-keeps (pinned sv).pack v w (goes-keeps f v (less (pinned sv).pack w) p.goes)).carries (pinned k)
       (fit.each m k (sym ((placed-set pins n None (Some sv) free).others m ne) ∙ is)));
 }
   where
@@ -137,7 +137,7 @@ drops-fit pins n sv v w fit is d = record {
   each = λ m k is_k. dite (ℕ_discrete m n)
       (λ e. absurd (let none : None ≡ Some k = some (sym (placed-set pins n (Some sv) None is).here
       ∙ ap (slice_get (slice_set pins n None)) (sym e) ∙ is_k) in cc))
-      (λ ne. still-pinned v w (drops-keeps sv.pack v w d) (pinned k)
+      (λ ne. still-pinned v w (drops-keeps sv.pack v w d).carries (pinned k)
       (fit.each m k (sym ((placed-set pins n (Some sv) None is).others m ne) ∙ is_k)));
 }
   where

@@ -31,11 +31,12 @@ has_name (Some (Some name)) = 1
 has_name o = 0
 
 -- The lane's handles are these, by family. Each is by the name that its family has, in all books that fit what the lane
--- knows.
+-- knows, and no two are by the same.
 pub record HandlesFit (handles : List (Option (List ℕ))) (v : LaneView) : Type 0 where
   pub long : length handles ≡ 16
   pub count : (f : ℕ) → f < 16 → times f v.known.task.handles ≡ has_name (slice_get handles f)
   pub named : (f : ℕ) (name : List ℕ) → IsHandleOf name handles f → (b : Books) → Fits b v.known → IsNamed b f name
+  pub distinct : (f g : ℕ) (name : List ℕ) → IsHandleOf name handles f → IsHandleOf name handles g → f ≡ g
 
 -- ---- pins
 

@@ -1,6 +1,6 @@
 // What a lane means by the name of a family.
-ghost use Rattle.std.specs.Prelude.{IfSome, None, length, position, ◌<◌, ◌≡◌};
-ghost use Rattle.sv_db.specs.Handles.{HasNone, IsHandleOf, is_named};
+ghost use Rattle.std.specs.Prelude.{IfSome, None, length, position, ◌<◌, ◌≡◌, ◌⊎◌};
+ghost use Rattle.sv_db.specs.Handles.{ClosesOwn, HasNone, IsHandleOf, is_named};
 
 use sv_model::{FamilyId, Name};
 
@@ -28,5 +28,15 @@ pub(crate) fn family_of(handles: &[Option<Name>], name: &Name) -> Option<FamilyI
     match place_of(handles, name) {
         Some(place) => Some(FamilyId(place as u8)),
         None => None,
+    }
+}
+
+/// The lane has no handle by the name any more.
+pub(crate) fn close_handle(handles: &mut [Option<Name>], name: &Name)
+    requires { length handles.old ≡ 16 }
+    ensures closed { ClosesOwn name.now handles.old handles.new ⊎ (HasNone name.now handles.old × (handles.new ≡ handles.old)) }
+{
+    if let Some(family) = family_of(handles, name) {
+        handles[family.0 as usize] = None;
     }
 }

@@ -4,6 +4,7 @@
 mod handles;
 mod locals;
 mod named_gets;
+mod named_handles;
 mod named_pins;
 mod named_puts;
 mod opened;

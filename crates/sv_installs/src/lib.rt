@@ -8,3 +8,4 @@ mod sweeps;
 
 pub use fills::install_filled;
 pub use installs::install;
+pub use sweeps::retire;

@@ -44,7 +44,7 @@ fn sweep_all<D: Dir + Drop>(core: &Table<D>, seat: &mut Seat<D>, family: FamilyI
 
 /// The slots of all lanes are swept, and then the reference of the SuperVersion before is dropped. Where it was the last,
 /// the SuperVersion is Gone with all that it alone named. Takes no memory.
-pub(crate) fn retire<D: Dir + Drop, R: Wait>(
+pub fn retire<D: Dir + Drop, R: Wait>(
     rt: &R,
     core: &Table<D>,
     seat: &mut Seat<D>,

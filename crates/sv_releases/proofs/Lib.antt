@@ -1,0 +1,4 @@
+pub mod Ended
+pub mod Lost
+pub mod Closing
+pub mod Releasing
