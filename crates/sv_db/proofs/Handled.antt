@@ -1,5 +1,5 @@
 -- Handles that come and go.
-use Rattle.std.proofs.Common.{Err, List, None, Ok, Result, Option, Some, [], ap, arith, length, refl, slice_get, slice_set, subst, sym, ℕ, ◌++◌, ◌+◌, ◌<◌, ◌∙◌, ◌∷◌, ◌≡◌, ◌≢◌, ◌≤◌}
+use Rattle.std.proofs.Common.{Err, List, None, Ok, Result, Option, Some, [], ap, arith, length, refl, slice_get, slice_set, subst, suc, sym, ℕ, ⊎_elim, ◌++◌, ◌+◌, ◌<◌, ◌∙◌, ◌∷◌, ◌≡◌, ◌≢◌, ◌≤◌, ◌⊎◌}
 use Rattle.std.proofs.lemmas.List.{length-set}
 use Rattle.atomic_table.specs.Seated.{TableId}
 use mathlib.Core.Logic.{dite}
@@ -9,7 +9,8 @@ use Rattle.sv_borrows.specs.Grown.{Grows}
 use Rattle.sv_db.proofs.Keeping.{Carries, handled-local, still-handles}
 use Rattle.sv_db.proofs.Naming.{name_at}
 use Rattle.sv_db.specs.Handles.{ClosesOwn, HasNone, IsHandleOf}
-use Rattle.sv_db.specs.Locals.{HandlesFit, IsLocal, has_name}
+use Rattle.sv_db.specs.Locals.{HandlesFit, IsLocal, PinsFit, has_name}
+use Rattle.sv_db.specs.Pins.{IsPin, pin_count}
 use Rattle.sv_laws.proofs.GrownRegisters.{placed-set}
 use Rattle.sv_model.proofs.AfterLaws.{continues-itself}
 use Rattle.sv_model.proofs.Entries.{some}
@@ -169,8 +170,10 @@ module _ {P S D C B : Type 0} {g : Ghosts P S D C B} (t : TableId) (lanes lane :
     own-here = own-place names (view_of old) was.handles name lane h.found h.fits h.answers.closes.0 h.answers.closes.1
         h.answers.closes.3
 
-    pub has-own : HasNone name names → ⊥
-    has-own none = none h.answers.closes.0 own-here
+    -- so the handle is closed that it had
+    pub closed-own : (after : List (Option (List ℕ))) → ClosesOwn name names after ⊎ (HasNone name names × (after ≡ names))
+        → ClosesOwn name names after
+    closed-own after c = ⊎_elim (λ k. k) (λ k. absurd (k.0 h.answers.closes.0 own-here)) c
 
     pub released-local : (after : List (Option (List ℕ))) → ClosesOwn name names after → IsLocal t lanes lane after pins new
     released-local after c =
@@ -182,3 +185,17 @@ module _ {P S D C B : Type 0} {g : Ghosts P S D C B} (t : TableId) (lanes lane :
         (handled-local t lanes lane names pins old new same_seat k.carries was (slice_set names c.family None) k.hand
         (closes-fit names v was.handles name c.family c.own w (subst (λ n. 1 ≤ times n v.known.task.handles) same h.answers.closes.3)
         k.handles k.carries.fits))
+
+-- no pin is of the pack 0
+no-pin : (pins : List (Option (SvRef Kept))) → ((n : ℕ) (sv : SvRef Kept) → IsPin pins n sv → 256 ≤ sv.pack)
+    → total (pin_count 0) pins ≡ 0
+no-pin [] big = refl
+no-pin (None ∷ pins) big = omega (arith, no-pin pins (λ n sv is. big (suc n) sv is))
+no-pin (Some sv ∷ pins) big = omega (
+  arith,
+  same-else 0 sv.pack (λ e. omega (arith, e, big 0 sv refl)),
+  no-pin pins (λ n k is. big (suc n) k is),
+)
+
+pub no-zero : (pins : List (Option (SvRef Kept))) (v : LaneView) → PinsFit pins v → total (same 0) v.hand ≡ 0
+no-zero pins v fit = omega (arith, fit.hand 0, no-pin pins (λ n sv is. (fit.each n sv is).shown.pack))
