@@ -22,7 +22,9 @@ use Rattle.sv_model.specs.declared.writes.Row.{Row}
 use Rattle.sv_model.specs.declared.writes.Write.{Write}
 use Rattle.sv_model.proofs.AfterLaws.{continues-itself, continues-through}
 use Rattle.sv_objects.specs.declared.bodies.Body.{Body as Kept}
+use Rattle.sv_handles.specs.Handling.{turned_view}
 use Rattle.sv_puts.specs.Putting.{Puts, put_view}
+use Rattle.sv_rests.specs.Resting.{Rests, rested_view}
 use Rattle.sv_rule.specs.Fits.{Fits}
 use Rattle.sv_rule.specs.Table.{slot_of}
 use Rattle.sv_rule.specs.Views.{Bodied, Known, LaneView, Seat, Slots, away}
@@ -278,3 +280,68 @@ puts-keeps l name row r v w h = (
   subst (Keeps v) (sym h.is) (put-keeps h.found h.left h.more h.writes h.seen h.looked h.adds v h.rises),
   ap (λ (z : LaneView). z.hand) h.is,
 )
+
+-- ---- a rest
+
+module _ (a : Books) (more : List Bodied) (slots : Slots) (v : LaneView) where
+  rested-grows : Grows v.known (rested_view a more slots v).known
+  rested-grows = record {
+    base = refl;
+    found = (a ∷ [], refl);
+    left = (a ∷ [], refl);
+    bodies = (more, refl);
+    rows = continues-itself v.known.rows;
+    reads = continues-itself v.known.reads;
+    seen = λ f. omega arith;
+  }
+
+  rested-keeps : ((f : ℕ) → at away slots.slot f ≡ at away v.slots.slot f) → Keeps v (rested_view a more slots v)
+  rested-keeps same = record {
+    carries = record {
+      seat = refl;
+      locks = refl;
+      away = λ f was. same f ∙ was;
+      owes = refl;
+      lane = refl;
+      bodies = (more, refl);
+      fits = grows-fits v.known (rested_view a more slots v).known rested-grows;
+    };
+    handles = refl;
+  }
+
+pub rests-keeps : (n : ℕ) (v w : LaneView) → Rests n v w → Keeps v w × (w.hand ≡ v.hand)
+rests-keeps n v w h = (
+  subst (Keeps v) (sym h.is) (rested-keeps h.found h.more h.slots v h.emptied.slot),
+  ap (λ (z : LaneView). z.hand) h.is,
+)
+
+-- ---- a turn of the books that leaves what the lane has of its own
+
+module _ (a b : Books) (v : LaneView) where
+  turned-grows : Grows v.known (turned_view a b v.known.task v).known
+  turned-grows = record {
+    base = refl;
+    found = (a ∷ [], refl);
+    left = (b ∷ [], refl);
+    bodies = continues-itself v.known.bodies;
+    rows = continues-itself v.known.rows;
+    reads = continues-itself v.known.reads;
+    seen = λ f. omega arith;
+  }
+
+  turned-keeps : Keeps v (turned_view a b v.known.task v)
+  turned-keeps = record {
+    carries = record {
+      seat = refl;
+      locks = refl;
+      away = λ f was. was;
+      owes = refl;
+      lane = refl;
+      bodies = continues-itself v.known.bodies;
+      fits = grows-fits v.known (turned_view a b v.known.task v).known turned-grows;
+    };
+    handles = refl;
+  }
+
+pub turns-keep : (a b : Books) (v w : LaneView) → w ≡ turned_view a b v.known.task v → Keeps v w × (w.hand ≡ v.hand)
+turns-keep a b v w is = (subst (Keeps v) (sym is) (turned-keeps a b v), ap (λ (z : LaneView). z.hand) is)

@@ -1,4 +1,4 @@
-//! A database of many lanes: each gets and puts by the names of families, and pins what it reads.
+//! A database of many lanes: each gets and puts by the names of families, pins what it reads, and rests.
 #![tactic(auto)]
 
 mod handles;
@@ -10,6 +10,7 @@ mod named_puts;
 mod opened;
 mod openings;
 mod pins;
+mod rests;
 mod unopened;
 
 pub use locals::{Db, Local, MAX_PINS};
