@@ -1,10 +1,10 @@
 -- A lane gives the DB lock with books in which it opened or dropped a family.
-use Rattle.std.proofs.Common.{Bool, Err, List, None, Ok, Result, Some, [], arith, ap, false, map, refl, subst, suc, sym, zero, ℕ, ◌<◌, ◌∙◌, ◌∷◌, ◌≡◌}
+use Rattle.std.proofs.Common.{Bool, Err, List, None, Ok, Result, Some, [], arith, ap, false, map, refl, subst, suc, sym, zero, ℕ, ◌∙◌, ◌∷◌, ◌≡◌}
 use Rattle.std.specs.Prelude.{IfOk, IsSomeAnd, OnErr, slice_get}
 use Rattle.sv_borrows.specs.Lending.{IsFree}
 use Rattle.sv_family.specs.Calls.{IsFreshTo}
 use Rattle.sv_family.specs.Refused.{drop_refusal, open_refusal}
-use Rattle.sv_handles.specs.Handling.{DropsFamily, DropsOwn, GivesHandle, OpensFamily, turned_view}
+use Rattle.sv_handles.specs.Handling.{DropsFamily, DropsOwn, OpensFamily, turned_view}
 use Rattle.sv_laws.proofs.GrownRegisters.{get_within}
 use Rattle.sv_laws.specs.Families.{IsDropped, IsOpened}
 use Rattle.sv_model.proofs.Entries.{get_none, some}
@@ -14,7 +14,6 @@ use Rattle.sv_model.specs.Lists.{at, bit, times}
 use Rattle.sv_model.specs.Refusals.{RefusesExactly}
 use Rattle.sv_model.specs.Tasks.{Task, handle, handle_in}
 use Rattle.sv_model.specs.Turns.{IsAccounted, Stands, Turns}
-use Rattle.sv_model.specs.declared.limits.TheConstants.{MAX_FAMILIES}
 use Rattle.sv_model.specs.declared.records.Family.{Family}
 use Rattle.sv_model.specs.declared.refusals.Refusal.{Refusal}
 use Rattle.sv_rule.specs.LockPlays.{IsTold, MayGiveDb, gave_db, took_db}
