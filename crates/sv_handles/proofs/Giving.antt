@@ -1,10 +1,10 @@
 -- A lane gives the DB lock with books in which it opened or dropped a family.
-use Rattle.std.proofs.Common.{Bool, Err, List, None, Ok, Result, Some, [], arith, ap, false, map, refl, subst, suc, sym, zero, ℕ, ◌<◌, ◌∙◌, ◌∷◌, ◌≡◌}
+use Rattle.std.proofs.Common.{Bool, Err, List, None, Ok, Result, Some, [], arith, ap, false, map, refl, subst, suc, sym, zero, ℕ, ◌∙◌, ◌∷◌, ◌≡◌}
 use Rattle.std.specs.Prelude.{IfOk, IsSomeAnd, OnErr, slice_get}
 use Rattle.sv_borrows.specs.Lending.{IsFree}
 use Rattle.sv_family.specs.Calls.{IsFreshTo}
 use Rattle.sv_family.specs.Refused.{drop_refusal, open_refusal}
-use Rattle.sv_handles.specs.Handling.{DropsFamily, DropsOwn, GivesHandle, OpensFamily, turned_view}
+use Rattle.sv_handles.specs.Handling.{DropsFamily, DropsOwn, OpensFamily, turned_view}
 use Rattle.sv_laws.proofs.GrownRegisters.{get_within}
 use Rattle.sv_laws.specs.Families.{IsDropped, IsOpened}
 use Rattle.sv_model.proofs.Entries.{get_none, some}
@@ -14,7 +14,6 @@ use Rattle.sv_model.specs.Lists.{at, bit, times}
 use Rattle.sv_model.specs.Refusals.{RefusesExactly}
 use Rattle.sv_model.specs.Tasks.{Task, handle, handle_in}
 use Rattle.sv_model.specs.Turns.{IsAccounted, Stands, Turns}
-use Rattle.sv_model.specs.declared.limits.TheConstants.{MAX_FAMILIES}
 use Rattle.sv_model.specs.declared.records.Family.{Family}
 use Rattle.sv_model.specs.declared.refusals.Refusal.{Refusal}
 use Rattle.sv_rule.specs.LockPlays.{IsTold, MayGiveDb, gave_db, took_db}
@@ -30,6 +29,16 @@ bit-off : (hs : List Bool) (l : ℕ) → slice_get hs l ≡ Some false → at 0 
 bit-off [] l e = absurd (get_none l false e)
 bit-off (x ∷ hs) zero e = ap bit (some e)
 bit-off (x ∷ hs) (suc l) e = bit-off hs l e
+
+bit-true : (hs : List Bool) (l : ℕ) → 1 ≤ at 0 (map bit hs) l → slice_get hs l ≡ Some true
+bit-true [] l h = absurd (omega (arith, h, at-none l))
+  where
+    at-none : (k : ℕ) → at {A = ℕ} 0 [] k ≡ 0
+    at-none zero = refl
+    at-none (suc k) = refl
+bit-true (true ∷ hs) zero h = refl
+bit-true (false ∷ hs) zero h = absurd (omega (arith, h))
+bit-true (x ∷ hs) (suc l) h = bit-true hs l h
 
 -- a refusal leaves the books of the state as they were
 pub on-err : (z p s : StateSeen) → p ≡ s → (r : Result ℕ Refusal) → OnErr r (z ≡ p) → OnErr r (z.books ≡ s.books)
@@ -91,6 +100,20 @@ module _ (v : LaneView) (free : IsFree v) (a : Books) (u : LaneView) (took : u �
       none =
           let was : handle a.families l f ≡ 0 = ap (handle_in l) h.at ∙ bit-off h.it.handles l off in
           omega (arith, was, accounted.handles f fresh.other)
+
+      -- The lane would have been refused by another family of the name of which it has a handle.
+      owned : (name : List ℕ) → IsStanding name h.it → open_refusal a.families l name ≡ None → (g : ℕ) (x : Family)
+          → slice_get a.families g ≡ Some x → x.name ≡ name → 1 ≤ times g v.known.task.handles → ⊥
+      owned name standing due zero x e name_is has =
+          let d = told.accounted.lawful.default in
+          let same : d.name ≡ name = ap (λ (z : Family). z.name) (some (sym d.at ∙ e)) ∙ name_is in ?
+      owned name standing due (suc g) x e name_is has =
+          let one : 1 ≤ at 0 (map bit x.handles) l =
+              omega (arith, has, accounted.handles (suc g) (omega arith), ap (handle_in l) e) in
+          let own : IsOwn l name x = record { name_is = name_is; handle = bit-true x.handles l one } in
+          let has_one = own_known a.families l name (suc g) x e own in
+          let free = (none_due (handle_refusal a.families l name) _ due).0 in
+          absurd (cc (free, has_one))
 
       pub gives-opened : MayGiveDb u b (opens_family f u.known.task)
       gives-opened =

@@ -7,7 +7,6 @@ use Rattle.sv_borrows.specs.Grown.{Grows}
 use Rattle.sv_borrows.specs.Lending.{IsAtRest}
 use Rattle.sv_handles.specs.Handling.{GivesHandle, turned_view}
 use Rattle.sv_laws.proofs.GrownRegisters.{placed-set}
-use Rattle.sv_laws.specs.Families.{IsOpened}
 use Rattle.sv_model.proofs.AfterLaws.{continues-itself}
 use Rattle.sv_model.specs.After.{After}
 use Rattle.sv_model.specs.Books.{Books}

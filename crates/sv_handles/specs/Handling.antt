@@ -1,5 +1,5 @@
 -- What a lane of many answers that opens or drops a family, and what it leaves.
-use Rattle.std.specs.Prelude.{IfOk, List, OnErr, Result, [], ℕ, ◌++◌, ◌<◌, ◌∷◌, ◌≡◌}
+use Rattle.std.specs.Prelude.{IfOk, List, OnErr, Result, Some, [], slice_get, ℕ, ◌++◌, ◌<◌, ◌∷◌, ◌≡◌}
 use Rattle.sv_family.specs.Refused.{drop_refusal, open_refusal}
 use Rattle.sv_laws.specs.Families.{IsDropped, IsOpened}
 use Rattle.sv_model.specs.Books.{Books}
@@ -7,7 +7,9 @@ use Rattle.sv_model.specs.Lists.{times}
 use Rattle.sv_model.specs.Refusals.{RefusesExactly}
 use Rattle.sv_model.specs.Tasks.{Task}
 use Rattle.sv_model.specs.declared.limits.TheConstants.{MAX_FAMILIES}
+use Rattle.sv_model.specs.declared.records.Family.{Family}
 use Rattle.sv_model.specs.declared.refusals.Refusal.{Refusal}
+use Rattle.sv_rule.specs.Fits.{Fits}
 use Rattle.sv_rule.specs.Views.{LaneView}
 use Rattle.sv_turns.specs.Owned.{opens_family}
 
@@ -26,12 +28,15 @@ pub record GivesHandle (l : ℕ) (name : List ℕ) (a b : Books) (v w : LaneView
   pub opened : IsOpened a b f l
   pub name_is : opened.it.name ≡ name
   pub none : times f v.known.task.handles ≡ 0
+  -- of no family of this name it had one
+  pub alone : (g : ℕ) (x : Family) → slice_get a.families g ≡ Some x → x.name ≡ name → times g v.known.task.handles ≡ 0
   pub is : w ≡ turned_view a b (opens_family f v.known.task) v
 
 -- A refusal is exactly that of the books found, and leaves them.
 pub record OpensFamily (l : ℕ) (name : List ℕ) (r : Result ℕ Refusal) (v w : LaneView) : Type 0 where
   pub found : Books
   pub left : Books
+  pub fits : Fits found v.known
   pub refused : RefusesExactly (open_refusal found.families l name) r
   pub ok : IfOk r (GivesHandle l name found left v w)
   pub err : OnErr r ((left ≡ found) × (w ≡ turned_view found found v.known.task v))

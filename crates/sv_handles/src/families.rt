@@ -14,7 +14,12 @@ use sv_model::{FamilyId, Name, Refusal};
 use sv_rule::Tasked;
 
 // The DB lock is given with books that have a handle of the family more for the lane.
-fn give_opened<J: Tasked, D: Dir + Drop>(core: &Table<D>, seat: &mut Seat<D>, held: Held, _family: FamilyId)
+fn give_opened<J: Tasked, D: Dir + Drop>(
+    core: &Table<D>,
+    seat: &mut Seat<D>,
+    held: Held,
+    _family: FamilyId,
+)
     requires table { CameWith (table_of core.now) seat.old }
     requires picks { J.task ≡ opens_family _family (view_of seat.old).known.task }
     requires lock { MayGiveDb (view_of seat.old) held.books J.task }

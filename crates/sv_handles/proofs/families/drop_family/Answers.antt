@@ -1,5 +1,5 @@
-use Rattle.std.proofs.Common.{Result, subst, ℕ, ◌∙◌, ◌≡◌}
-use Rattle.std.specs.Prelude.{IfOk, IsSomeAnd, OnErr, slice_get}
+use Rattle.std.proofs.Common.{subst, ◌∙◌}
+use Rattle.std.specs.Prelude.{IfOk, IsSomeAnd, slice_get}
 use Rattle.sv_family.specs.Refused.{drop_refusal}
 use Rattle.sv_handles.proofs.Giving.{drops, gives-dropped, on-err}
 use Rattle.sv_laws.specs.Families.{IsDropped}

@@ -1,4 +1,4 @@
-use Rattle.std.proofs.Common.{None, Some, ap, subst, ℕ, ◌∙◌, ◌≡◌}
+use Rattle.std.proofs.Common.{None, Some, ap, subst, ◌∙◌, ◌≡◌}
 use Rattle.std.specs.Prelude.{IsSomeAnd, slice_get}
 use Rattle.sv_family.specs.Calls.{IsFreshTo}
 use Rattle.sv_family.specs.Refused.{open_refusal}
