@@ -4,8 +4,12 @@
 #[cfg(test)]
 mod get_tests;
 #[cfg(test)]
+mod handle_tests;
+#[cfg(test)]
 mod lanes;
 #[cfg(test)]
 mod pin_tests;
+#[cfg(test)]
+mod steps;
 #[cfg(test)]
 mod words;
