@@ -1,13 +1,17 @@
 -- A lane gives the DB lock with books in which it opened or dropped a family.
-use Rattle.std.proofs.Common.{Bool, Err, List, None, Ok, Result, Some, [], arith, ap, false, map, refl, subst, suc, sym, zero, ℕ, ◌∙◌, ◌∷◌, ◌≡◌}
-use Rattle.std.specs.Prelude.{IfOk, IsSomeAnd, OnErr, slice_get}
+use Rattle.std.proofs.Common.{Bool, Err, List, None, Ok, Result, Some, [], arith, ap, false, map, refl, subst, suc, sym, true, zero, ℕ, ◌∙◌, ◌∷◌, ◌≡◌, ◌≤◌}
+use Rattle.std.specs.Prelude.{IfOk, IsSomeAnd, OnErr, not, slice_get}
+use mathlib.Core.Logic.{dite}
+use native.Mathlib.Decide.{dec_le}
 use Rattle.sv_borrows.specs.Lending.{IsFree}
 use Rattle.sv_family.specs.Calls.{IsFreshTo}
-use Rattle.sv_family.specs.Refused.{drop_refusal, open_refusal}
+use Rattle.sv_family.proofs.SoughtFamilies.{own_known}
+use Rattle.sv_family.specs.Refused.{drop_refusal, handle_refusal, open_refusal, stands, when}
 use Rattle.sv_handles.specs.Handling.{DropsFamily, DropsOwn, OpensFamily, turned_view}
 use Rattle.sv_laws.proofs.GrownRegisters.{get_within}
 use Rattle.sv_laws.specs.Families.{IsDropped, IsOpened}
 use Rattle.sv_model.proofs.Entries.{get_none, some}
+use Rattle.sv_model.proofs.RefusalLaws.{none_due}
 use Rattle.sv_model.specs.Books.{Books}
 use Rattle.sv_model.specs.Families.{IsOwn, IsStanding}
 use Rattle.sv_model.specs.Lists.{at, bit, times}
@@ -16,6 +20,7 @@ use Rattle.sv_model.specs.Tasks.{Task, handle, handle_in}
 use Rattle.sv_model.specs.Turns.{IsAccounted, Stands, Turns}
 use Rattle.sv_model.specs.declared.records.Family.{Family}
 use Rattle.sv_model.specs.declared.refusals.Refusal.{Refusal}
+use Rattle.sv_model.specs.declared.refusals.Refusal.TheVariants as refusal
 use Rattle.sv_rule.specs.LockPlays.{IsTold, MayGiveDb, gave_db, took_db}
 use Rattle.sv_rule.specs.Views.{LaneView, Locks, idle}
 use Rattle.sv_slots.proofs.Unchanged.{gives_found}
@@ -106,14 +111,25 @@ module _ (v : LaneView) (free : IsFree v) (a : Books) (u : LaneView) (took : u �
           → slice_get a.families g ≡ Some x → x.name ≡ name → 1 ≤ times g v.known.task.handles → ⊥
       owned name standing due zero x e name_is has =
           let d = told.accounted.lawful.default in
-          let same : d.name ≡ name = ap (λ (z : Family). z.name) (some (sym d.at ∙ e)) ∙ name_is in ?
+          let named : d.it.name ≡ h.it.name =
+              ap (λ (z : Family). z.name) (some (sym d.at ∙ e)) ∙ name_is ∙ sym standing.name_is in
+          let one : 0 ≡ f = told.accounted.lawful.distinct 0 f d.it h.it d.at h.at d.stands standing.stands named in
+          omega (arith, one, fresh.other)
       owned name standing due (suc g) x e name_is has =
           let one : 1 ≤ at 0 (map bit x.handles) l =
               omega (arith, has, accounted.handles (suc g) (omega arith), ap (handle_in l) e) in
           let own : IsOwn l name x = record { name_is = name_is; handle = bit-true x.handles l one } in
           let has_one = own_known a.families l name (suc g) x e own in
-          let free = (none_due (handle_refusal a.families l name) _ due).0 in
-          absurd (cc (free, has_one))
+          let free = (none_due (handle_refusal a.families l name) (when (not (stands a.families name)) refusal.NoFamily ∷ []) due).0 in
+          let met : Some refusal.AlreadyOpen ≡ None =
+              sym (ap (λ (k : Bool). when k refusal.AlreadyOpen) has_one) ∙ free in
+          absurd (cc met)
+
+      alone : (name : List ℕ) → IsStanding name h.it → open_refusal a.families l name ≡ None → (g : ℕ) (x : Family)
+          → slice_get a.families g ≡ Some x → x.name ≡ name → times g v.known.task.handles ≡ 0
+      alone name standing due g x e name_is = dite (dec_le 1 (times g v.known.task.handles))
+          (λ has. absurd (owned name standing due g x e name_is has))
+          (λ no. omega (arith, no))
 
       pub gives-opened : MayGiveDb u b (opens_family f u.known.task)
       gives-opened =
@@ -127,12 +143,14 @@ module _ (v : LaneView) (free : IsFree v) (a : Books) (u : LaneView) (took : u �
       opens standing due w gave = record {
         found = a;
         left = b;
+        fits = told.fits;
         refused = due;
         ok = record {
           near = omega (arith, get_within a.families f h.it h.at, told.accounted.lawful.limits.families);
           opened = h;
           name_is = (subst (λ o. IsSomeAnd o (IsStanding name)) h.at standing).name_is;
           none = none;
+          alone = alone name (subst (λ o. IsSomeAnd o (IsStanding name)) h.at standing) due;
           is = gave-turned b (opens_family f v.known.task) w
               (gave ∙ ap (λ (t : Task). gave_db b (opens_family f t) u) (ap (λ (z : LaneView). z.known.task) took));
         };
@@ -144,6 +162,7 @@ module _ (v : LaneView) (free : IsFree v) (a : Books) (u : LaneView) (took : u �
     opens-refused b same e due w gave = record {
       found = a;
       left = b;
+      fits = told.fits;
       refused = due;
       ok = tt;
       err = (same, gave-same a w (gave ∙ ap (λ (z : Books). gave_db z u.known.task u) same));

@@ -14,6 +14,5 @@ returns-clause-first c =
 pub returns-clause-second : goal.returns-clause-second
 returns-clause-second c =
     let it = c.in-Ok.ensures in let l = c.in-Ok.locals.items in let first = c.remove-first.ensures in
-    let Is = λ x. IsLocal (table_of c.in-Ok.db.core) c.in-Ok.db.lanes x.lane x.handles x.pins x.seat in
-    of-first Is _ _ (omega (arith, it.opened.count, length-map l (λ x. x.seat), first.len)) c.remove-second.ensures.value
-    (of-rest Is l _ _ (omega (arith, it.opened.count, length-map l (λ x. x.seat))) first.value first.items it.local)
+    of-first (λ x. IsLocal (table_of c.in-Ok.db.core) c.in-Ok.db.lanes x.lane x.handles x.pins x.seat) _ _ (omega (arith, it.opened.count, length-map l (λ x. x.seat), first.len)) c.remove-second.ensures.value
+    (of-rest (λ x. IsLocal (table_of c.in-Ok.db.core) c.in-Ok.db.lanes x.lane x.handles x.pins x.seat) l _ _ (omega (arith, it.opened.count, length-map l (λ x. x.seat))) first.value first.items it.local)
