@@ -5,11 +5,11 @@ use Rattle.sv_borrows.specs.Grown.{Grows}
 use Rattle.sv_borrows.specs.Lending.{IsAtRest}
 use Rattle.sv_model.proofs.AfterLaws.{continues-itself}
 use Rattle.sv_model.specs.Books.{Books}
+use Rattle.sv_model.specs.Lists.{at}
 use Rattle.sv_model.specs.declared.refusals.Refusal.{Refusal}
 use Rattle.sv_model.specs.declared.settings.OptionName.{OptionName}
-use Rattle.sv_model.specs.Lists.{at}
 use Rattle.sv_rule.specs.Views.{LaneView, Seat, SlotView, away}
-use Rattle.sv_sets.specs.Setting.{Renews, Sets, asked, renewed_view}
+use Rattle.sv_sets.specs.Setting.{Renews, Sets, asked}
 
 -- The lane has its seat, its references in hand, and no locks or borrows more. It learnt, and changed nothing of its own.
 pub record StaysReady (v w : LaneView) : Type 0 where

@@ -98,8 +98,11 @@ module _ (l : ℕ) (name : List ℕ) (option : OptionName) (value : ℕ) (a m : 
     may-install owes room = record {
       found = a;
       desk = desk;
-      near = omega (arith, get_within a.families f set.is_open.family set.is_open.family_at,
-          desk.own.lawful.limits.families);
+      near = omega (
+        arith,
+        get_within a.families f set.is_open.family set.is_open.family_at,
+        desk.own.lawful.limits.families,
+      );
       turns = option_set-turns v.known.lane a m v.known.task called f _ set;
       opens = let o = option_set-opens v.known.lane a m v.known.task called f _ set in
           subst (Opens a m f) (sym o.current) o;

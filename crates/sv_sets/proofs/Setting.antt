@@ -1,12 +1,12 @@
 -- A set takes the DB lock and gives it.
-use Rattle.std.proofs.Common.{Err, List, None, Ok, Result, [], ap, arith, refl, subst, sym, ℕ, ◌+◌, ◌/◌, ◌<◌, ◌∙◌, ◌∷◌, ◌≡◌}
+use Rattle.std.proofs.Common.{Err, List, None, Ok, Result, [], ap, arith, refl, subst, sym, ℕ, ◌+◌, ◌/◌, ◌<◌, ◌∙◌, ◌≡◌}
 use Rattle.std.specs.Prelude.{IfOk, OnErr, length}
 use Rattle.sv_borrows.specs.Desks.{IsAtDesk}
 use Rattle.sv_borrows.specs.Lending.{IsFree}
 use Rattle.sv_installs.specs.Installing.{renewed}
 use Rattle.sv_model.proofs.Registers.{entry_le}
 use Rattle.sv_model.specs.Books.{Books}
-use Rattle.sv_model.specs.Lists.{Every, In, at}
+use Rattle.sv_model.specs.Lists.{at}
 use Rattle.sv_model.specs.declared.refusals.Refusal.{Refusal}
 use Rattle.sv_model.specs.declared.settings.OptionName.{OptionName}
 use Rattle.sv_puts.proofs.Putting.{taken-desk}
