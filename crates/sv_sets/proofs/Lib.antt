@@ -1,0 +1,3 @@
+pub mod Renewal
+pub mod Setting
+pub mod Ready
