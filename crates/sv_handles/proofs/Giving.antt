@@ -112,17 +112,17 @@ module _ (v : LaneView) (free : IsFree v) (a : Books) (u : LaneView) (took : u �
       owned name standing due zero x e name_is has =
           let d = told.accounted.lawful.default in
           let named : d.it.name ≡ h.it.name =
-              ap (λ (z : Family). z.name) (some (sym d.at ∙ e)) ∙ name_is ∙ sym standing.name_is in
+          ap (λ (z : Family). z.name) (some (sym d.at ∙ e)) ∙ name_is ∙ sym standing.name_is in
           let one : 0 ≡ f = told.accounted.lawful.distinct 0 f d.it h.it d.at h.at d.stands standing.stands named in
           omega (arith, one, fresh.other)
       owned name standing due (suc g) x e name_is has =
           let one : 1 ≤ at 0 (map bit x.handles) l =
-              omega (arith, has, accounted.handles (suc g) (omega arith), ap (handle_in l) e) in
+          omega (arith, has, accounted.handles (suc g) (omega arith), ap (handle_in l) e) in
           let own : IsOwn l name x = record { name_is = name_is; handle = bit-true x.handles l one } in
           let has_one = own_known a.families l name (suc g) x e own in
           let free = (none_due (handle_refusal a.families l name) (when (not (stands a.families name)) refusal.NoFamily ∷ []) due).0 in
           let met : Some refusal.AlreadyOpen ≡ None =
-              sym (ap (λ (k : Bool). when k refusal.AlreadyOpen) has_one) ∙ free in
+          sym (ap (λ (k : Bool). when k refusal.AlreadyOpen) has_one) ∙ free in
           absurd (cc met)
 
       alone : (name : List ℕ) → IsStanding name h.it → open_refusal a.families l name ≡ None → (g : ℕ) (x : Family)

@@ -39,19 +39,22 @@ module _ (b : Books) (f p : ℕ) (u : Task) (v : LaneView) (may : MayRetire b f 
   was-big = omega (arith, may.was, may.big)
 
   pub may-end : (f < 16) × MayEndCurrent v f b u
-  may-end = (may.near, record {
-    alive = may.desk.alive;
-    desk = record { books = a; work = idle; due = [] };
-    has = may.desk.db;
-    resting = refl;
-    near = may.near;
-    current = was-big;
-    turns = may.turns;
-    ended = may.ended;
-    family = may.family;
-    family_at = may.family_at;
-    may = inl may.family_is;
-  })
+  may-end = (
+    may.near,
+    record {
+      alive = may.desk.alive;
+      desk = record { books = a; work = idle; due = [] };
+      has = may.desk.db;
+      resting = refl;
+      near = may.near;
+      current = was-big;
+      turns = may.turns;
+      ended = may.ended;
+      family = may.family;
+      family_at = may.family_at;
+      may = inl may.family_is;
+    },
+  )
 
   -- ---- the SuperVersion before may go
 
