@@ -3,4 +3,4 @@ use Rattle.sv_slots.specs.Known.{table_of}
 use Rattle.sv_db_tests.proofs.pin_tests.pins_sixteen.Given as goal
 
 abbrev pub invariant-loop-number : goal.invariant-loop-number
-invariant-loop-number l = IsLocal (table_of l.db.core) l.db.lanes l.first.lane l.first.handles l.first.pins l.first.seat
+invariant-loop-number g l = IsLocal (table_of l.db.core) l.db.lanes l.first.lane l.first.handles l.first.pins l.first.seat
